@@ -1,0 +1,3 @@
+pub mod Worked
+pub mod Facts
+pub mod Clock

@@ -1,0 +1,13 @@
+pub mod Names
+pub mod WellFormed
+pub mod Formed
+pub mod Boot
+pub mod Numbers
+pub mod Places
+pub mod Addresses
+pub mod Calls
+pub mod Commit
+pub mod Buffer
+pub mod Run
+pub mod Cases
+pub mod Opened

@@ -1,0 +1,69 @@
+-- Words, places and positions of a list from a byte on, and of a part of it: what is read in a part that was handed on is
+-- what the whole list has there.
+use mathlib.Core.Path.{_≡_, _∙_}
+use mathlib.Core.List.{List}
+use Prim.Native.Nat.{ℕ, _+_, _≤_}
+use native.Mathlib.Nat.{add-assoc}
+use native.Mathlib.Omega.{arith}
+use lib.ListN.{take, drop}
+use lib.Seq.{getD-drop, getD-take}
+use Rattle.state.specs.Read.{wordAt, placeOf, positionOf}
+
+-- ---- from byte a on
+module _ (l : List ℕ) (a at : ℕ) where
+  pub word-drop : wordAt (drop a l) at ≡ wordAt l (a + at)
+  unfolding wordAt
+  word-drop = simp (getD-drop, ← add-assoc)
+
+  pub place-drop : placeOf (drop a l) at ≡ placeOf l (a + at)
+  unfolding placeOf wordAt
+  place-drop = simp (getD-drop, ← add-assoc)
+
+  pub position-drop : positionOf (drop a l) at ≡ positionOf l (a + at)
+  unfolding positionOf wordAt
+  position-drop = simp (getD-drop, ← add-assoc)
+
+-- ---- the first m bytes
+module _ (l : List ℕ) (m at : ℕ) where
+  pub word-take : at + 4 ≤ m → wordAt (take m l) at ≡ wordAt l at
+  unfolding wordAt
+  word-take h =
+      let e0 = getD-take m l at 0 (omega arith) in
+      let e1 = getD-take m l (at + 1) 0 (omega arith) in
+      let e2 = getD-take m l (at + 2) 0 (omega arith) in
+      let e3 = getD-take m l (at + 3) 0 (omega arith) in
+      rw (e0, e1, e2, e3)
+
+module _ (l : List ℕ) (m at : ℕ) where
+  pub place-take : at + 32 ≤ m → placeOf (take m l) at ≡ placeOf l at
+  unfolding placeOf
+  place-take h =
+      let e0 = word-take l m at (omega arith) in
+      let e1 = word-take l m (at + 4) (omega arith) in
+      let e2 = word-take l m (at + 8) (omega arith) in
+      let e3 = word-take l m (at + 12) (omega arith) in
+      let e4 = getD-take m l (at + 16) 0 (omega arith) in
+      let e5 = word-take l m (at + 20) (omega arith) in
+      let e6 = word-take l m (at + 24) (omega arith) in
+      let e7 = word-take l m (at + 28) (omega arith) in
+      rw (e0, e1, e2, e3, e4, e5, e6, e7)
+
+  pub position-take : at + 8 ≤ m → positionOf (take m l) at ≡ positionOf l at
+  unfolding positionOf
+  position-take h =
+      let e0 = getD-take m l at 0 (omega arith) in
+      let e1 = getD-take m l (at + 1) 0 (omega arith) in
+      let e2 = word-take l m (at + 4) (omega arith) in
+      let e3 = getD-take m l (at + 4) 0 (omega arith) in
+      rw (e0, e1, e2, e3)
+
+-- ---- the part of m bytes that starts at byte a
+module _ (l : List ℕ) (a m at : ℕ) where
+  pub word-part : at + 4 ≤ m → wordAt (take m (drop a l)) at ≡ wordAt l (a + at)
+  word-part h = word-take (drop a l) m at h ∙ word-drop l a at
+
+  pub place-part : at + 32 ≤ m → placeOf (take m (drop a l)) at ≡ placeOf l (a + at)
+  place-part h = place-take (drop a l) m at h ∙ place-drop l a at
+
+  pub position-part : at + 8 ≤ m → positionOf (take m (drop a l)) at ≡ positionOf l (a + at)
+  position-part h = position-take (drop a l) m at h ∙ position-drop l a at
