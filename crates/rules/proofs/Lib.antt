@@ -1,3 +1,5 @@
 pub mod Worked
 pub mod Facts
 pub mod Clock
+pub mod Held
+pub mod Lift

@@ -3,3 +3,9 @@ pub mod Sizes
 pub mod Parts
 pub mod Look
 pub mod Back
+pub mod Zeros
+pub mod Write
+pub mod Run
+pub mod LaidAfter
+pub mod Elsewhere
+pub mod New

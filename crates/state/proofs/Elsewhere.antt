@@ -1,0 +1,79 @@
+-- What stands in each slot after a run of slots was replaced: the new ones in the run, and elsewhere what stood there.
+use mathlib.Core.Path.{_≡_, refl, sym, _∙_, ap}
+use mathlib.Core.Bool.{Bool, true, false}
+use mathlib.Core.List.{List, _++_}
+use Prim.Native.Nat.{ℕ, zero, suc, _+_, _-_, _<_, _≤_}
+use native.Mathlib.Nat.{add-zero}
+use native.Mathlib.Omega.{arith}
+use lib.Dec.{ltb}
+use lib.ListN.{length, getD, take, drop, replicate, length-replicate, List·getD-append}
+use lib.Seq.{getD-append-add, getD-take, getD-drop, length-take-le}
+use borrow.Author.Tests.{ltb-true, ltb-false}
+use Rattle.words.specs.Fields.{slot}
+use Rattle.state.specs.Names.{Slot}
+use Rattle.state.specs.State.{Object, free, State, sizeOf, objAt, splice, risen, raise, raze}
+use Rattle.state.specs.Layout.{Laid}
+use Rattle.state.specs.Bytes.{tagOf}
+use Rattle.state.proofs.Run.{risen-length, object-fits, object-part}
+
+module _ {A : Type 0} (d : A) (v l : List A) (n : ℕ) (fits : n + length v ≤ length l) where
+  pub splice-below : (i : ℕ) → i < n → getD (splice n v l) i d ≡ getD l i d
+  unfolding splice
+  splice-below i h =
+      List·getD-append (take n l) (v ++ drop (n + length v) l) d i (omega (arith, length-take-le n l (omega arith))) ∙ getD-take n l i d h
+
+  behind : (j : ℕ) → getD (splice n v l) (n + j) d ≡ getD (v ++ drop (n + length v) l) j d
+  unfolding splice
+  behind j =
+      ap (λ (k : ℕ). getD (take n l ++ (v ++ drop (n + length v) l)) (k + j) d) (sym (length-take-le n l (omega arith)))
+      ∙ getD-append-add (take n l) (v ++ drop (n + length v) l) j d
+
+  pub splice-in : (j : ℕ) → j < length v → getD (splice n v l) (n + j) d ≡ getD v j d
+  splice-in j h = behind j ∙ List·getD-append v (drop (n + length v) l) d j h
+
+  pub splice-above : (i : ℕ) → n + length v ≤ i → getD (splice n v l) i d ≡ getD l i d
+  splice-above i h =
+      let j : ℕ = i - (n + length v) in
+      let e : n + (length v + j) ≡ i = omega arith in
+      let f : n + length v + j ≡ i = omega arith in
+      ap (λ (k : ℕ). getD (splice n v l) k d) (sym e) ∙ behind (length v + j) ∙ getD-append-add v (drop (n + length v) l) j d ∙ getD-drop (n + length v) l j d
+      ∙ ap (λ (k : ℕ). getD l k d) f
+
+  -- an element of the old list that the run did not take stays
+  pub splice-stays : (i : ℕ) → ((j : ℕ) → j < length v → i ≡ n + j → ⊥) → getD (splice n v l) i d ≡ getD l i d
+  splice-stays i out = low (ltb i n) refl
+    where
+      high : (b : Bool) → ltb i (n + length v) ≡ b → n ≤ i → getD (splice n v l) i d ≡ getD l i d
+      high true e h = let below = ltb-true i (n + length v) e in absurd (out (i - n) (omega arith) (omega arith))
+      high false e h = splice-above i (ltb-false i (n + length v) e)
+
+      low : (b : Bool) → ltb i n ≡ b → getD (splice n v l) i d ≡ getD l i d
+      low true e = splice-below i (ltb-true i n e)
+      low false e = high (ltb i (n + length v)) refl (ltb-false i n e)
+
+module _ (st : State) (w : Laid st) (s : Slot) where
+  -- ---- a new object where all its slots are free
+  module _ (o : Object) (some : 1 ≤ sizeOf o) (room : s .0 + sizeOf o ≤ 256) (none : (i : ℕ) → i < sizeOf o → objAt st (slot (s .0 + i)) ≡ free) where
+    raise-fits : s .0 + length (risen s o) ≤ length (st .slots)
+    raise-fits = omega (arith, w .room, risen-length s o some)
+
+    pub raise-first : objAt (raise st s o) s ≡ o
+    raise-first =
+        ap (λ (i : ℕ). getD (splice (s .0) (risen s o) (st .slots)) i free) (sym (add-zero (s .0))) ∙ splice-in free (risen s o) (st .slots) (s .0) raise-fits 0 (omega arith)
+
+    pub raise-stays : (t : Slot) → (tagOf (objAt st t) ≡ 0 → ⊥) → objAt (raise st s o) t ≡ objAt st t
+    raise-stays t h =
+        splice-stays free (risen s o) (st .slots) (s .0) raise-fits (t .0)
+        (λ j below e. h (ap (λ (i : ℕ). tagOf (getD (st .slots) i free)) e ∙ ap tagOf (none j (omega (arith, risen-length s o some)))))
+
+  -- ---- the object at s deleted
+  module _ (tag : 2 ≤ tagOf (objAt st s)) where
+    pub raze-stays : (t : Slot) → (t .0 ≡ s .0 → ⊥) → (tagOf (objAt st t) ≡ 1 → ⊥) → objAt (raze st s) t ≡ objAt st t
+    raze-stays t other whole =
+        let n : ℕ = sizeOf (objAt st s) in
+        splice-stays free (replicate n free) (st .slots) (s .0) (omega (arith, w .room, length-replicate n free, object-fits st w s tag)) (t .0)
+        (λ j below e. go j (omega (arith, length-replicate n free)) e)
+      where
+        go : (j : ℕ) → j < sizeOf (objAt st s) → t .0 ≡ s .0 + j → ⊥
+        go zero h e = other (e ∙ add-zero (s .0))
+        go (suc j) h e = whole (ap (λ (i : ℕ). tagOf (getD (st .slots) i free)) e ∙ ap tagOf (object-part st w s tag j h))
