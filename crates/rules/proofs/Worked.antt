@@ -2,7 +2,8 @@
 use mathlib.Core.Bool.{true}
 use mathlib.Core.Path.{refl, _≡_}
 use Rattle.rules.specs.Boot.{boot}
-use Rattle.rules.specs.Cases.{cases, everyCase, others}
+use Rattle.rules.specs.Cases.{cases, everyCase}
+use Rattle.rules.specs.Further.{everyScript, scripts}
 use Rattle.rules.specs.Opened.{opened}
 use Rattle.rules.specs.WellFormed.{wf}
 
@@ -15,7 +16,7 @@ pub worked : everyCase cases ≡ true
 unfolding opened
 worked = refl
 
--- the cases not marked
-pub other-cases : others ≡ true
+-- the further ones
+pub scripted : everyScript scripts ≡ true
 unfolding opened
-other-cases = refl
+scripted = refl

