@@ -212,6 +212,11 @@ module _ (b : List ℕ) (t : Slot) (ht : t .0 < slotCount) where
       slot-cases (λ o. bootMark o ≡ false) (λ e. refl) (λ e ps. refl) (λ e g es. refl) (λ e x y. refl) (λ e n z. absurd (d e))
       (λ d1 d2 d3 d4 d5. refl)
 
+-- a mark is any word but 0
+pub marked-some : (w : ℕ) → (w ≡ 0 → ⊥) → marked w ≡ true
+marked-some zero d = absurd (d refl)
+marked-some (suc w) d = refl
+
 -- ---- a slot is free where its tag is 0
 pub free-tag : (o : Object) → isFree o ≡ eqb (tagOf o) 0
 free-tag free = refl

@@ -1,12 +1,12 @@
 -- Words, places and positions of a list from a byte on, and of a part of it: what is read in a part that was handed on is
--- what the whole list has there.
-use mathlib.Core.Path.{_≡_, _∙_}
-use mathlib.Core.List.{List}
-use Prim.Native.Nat.{ℕ, _+_, _≤_}
+-- what the whole list has there. And how code cuts such a part.
+use mathlib.Core.Path.{_≡_, sym, _∙_, ap}
+use mathlib.Core.List.{List, []}
+use Prim.Native.Nat.{ℕ, _+_, _-_, _≤_}
 use native.Mathlib.Nat.{add-assoc}
 use native.Mathlib.Omega.{arith}
-use lib.ListN.{take, drop}
-use lib.Seq.{getD-drop, getD-take}
+use lib.ListN.{length, take, drop, length-drop, drop-of-length-le}
+use lib.Seq.{getD-drop, getD-take, take-all, take-nil}
 use Rattle.state.specs.Read.{wordAt, placeOf, positionOf}
 
 -- ---- from byte a on
@@ -67,3 +67,16 @@ module _ (l : List ℕ) (a m at : ℕ) where
 
   pub position-part : at + 8 ≤ m → positionOf (take m (drop a l)) at ≡ positionOf l (a + at)
   position-part h = position-take (drop a l) m at h ∙ position-drop l a at
+
+-- ---- the part as code cuts it: whole, short of the buffer's end, and past it
+module _ {A : Type 0} (l : List A) (a m : ℕ) where
+  pub part-whole : take (a + m - a) (drop a l) ≡ take m (drop a l)
+  part-whole = let q : a + m - a ≡ m = omega arith in ap (λ (i : ℕ). take i (drop a l)) q
+
+  pub part-short : length l ≤ a + m → take (length l - a) (drop a l) ≡ take m (drop a l)
+  part-short h =
+      take-all (length l - a) (drop a l) (omega (arith, length-drop a l))
+      ∙ sym (take-all m (drop a l) (omega (arith, length-drop a l)))
+
+  pub part-none : length l ≤ a → [] ≡ take m (drop a l)
+  part-none h = sym (ap (take m) (drop-of-length-le l h) ∙ take-nil m)

@@ -1,0 +1,57 @@
+// Bytes and words of a buffer or of a part of one, 0 past its end; and the parts that are handed on.
+ghost use mathlib.Core.Path.{_≡_};
+ghost use Prim.Native.Nat.{_*_, _≤_};
+ghost use lib.ListN.{getD, take, drop};
+ghost use Rattle.words.specs.Sizes.{slotSize};
+ghost use Rattle.state.specs.Read.{wordAt};
+use words::numbers::Slot;
+
+pub fn byte_at(s: &[u8], at: usize) -> u8
+    ensures { λ r. ⌜ r ≡ getD (now (s .entry)) at 0 ⌝ }
+{
+    if at < s.len() { s[at] } else { 0 }
+}
+
+fn joined(a: u8, b: u8, c: u8, d: u8) -> u32
+    ensures { λ r. ⌜ r ≡ Rattle.state.specs.Read.joined a b c d ⌝ }
+{
+    (a as u32) + (b as u32) * 256 + (c as u32) * 65536 + (d as u32) * 16777216
+}
+
+// Four bytes, the lowest first.
+pub fn word_at(s: &[u8], at: usize) -> u32
+    requires { ⌜ at ≤ 65535 ⌝ }
+    ensures { λ r. ⌜ r ≡ wordAt (now (s .entry)) at ⌝ }
+{
+    joined(
+        byte_at(s, at),
+        byte_at(s, at + 1),
+        byte_at(s, at + 2),
+        byte_at(s, at + 3),
+    )
+}
+
+// A mark is any word but 0.
+pub fn marked(w: u32) -> bool
+    ensures { λ r. ⌜ r ≡ Rattle.state.specs.Read.marked w ⌝ }
+{
+    match w {
+        0 => false,
+        _ => true,
+    }
+}
+
+// "hands on just its slots, a part from the middle of the lent state": n slots from slot k on, as far as the buffer has them.
+pub fn slots_from(s: &[u8], k: Slot, n: u16) -> &[u8]
+    ensures { λ r. ⌜ now r ≡ take (slotSize * n) (drop (slotSize * k .0) (now (s .entry))) ⌝ }
+{
+    let a = 64 * (k.0 as usize);
+    let e = a + 64 * (n as usize);
+    if e <= s.len() {
+        return &s[a..e];
+    }
+    if a <= s.len() {
+        return &s[a..];
+    }
+    &s[0..0]
+}
