@@ -13,8 +13,8 @@ use Rattle.words.specs.Sizes.{entrySize, headerSize, mostEntries, positionSize,
 use Rattle.words.specs.Tests.{_&_, allBelow, anyBelow, _or_}
 use Rattle.words.specs.Try.{_>>_, _>>=_, Try, need, no!, ok!}
 use Rattle.rules.specs.Addresses.{addressArg}
-use Rattle.rules.specs.Names.{Action, Answer, BadCall, BadCaller, CapExist, CapFlag, CapNull, CapRange, Capability, ChangeDirectory, ChangeTable, Child, CreateDirectory, CreateEndpoint, CreateProcess, CreateTable, Delete, Directory, Empty, Endpoint, Fill, Freeze, Function, Geometry, Grant, Kind, Memory, Page, PgtAddr, PgtHw, PgtMap, PgtPerm, Position, Process, Refusal, Remove, SetCount, SetPosition, SivAct, SivConflict, SivFull, Slot, Table, Thawed, Under, Words}
-use Rattle.rules.specs.Numbers.{Span, asDirectory, asEndpoint, asFunction, asProcess, asTable, directoryArg, endpointArg, lookup, memoryArg, processArg, tableArg, topArg}
+use Rattle.rules.specs.Names.{Action, Answer, BadCall, BadCaller, CapExist, CapFlag, CapNull, CapRange, Capability, ChangeDirectory, ChangeTable, Child, CreateDirectory, CreateEndpoint, CreateProcess, CreateTable, Delete, Directory, Empty, Endpoint, Fill, Frame, Freeze, Function, Geometry, Grant, Kind, Memory, Page, PgtAddr, PgtHw, PgtMap, PgtPerm, Position, Process, Refusal, Remove, SetCount, SetPosition, SivAct, SivConflict, SivFull, Slot, Span, Table, Thawed, Under, Words}
+use Rattle.rules.specs.Numbers.{asDirectory, asEndpoint, asFunction, asProcess, asTable, directoryArg, endpointArg, lookup, memoryArg, processArg, tableArg, topArg}
 use Rattle.rules.specs.Places.{spot, thawedAt, toDelete, toFill, toRemove}
 use Rattle.rules.specs.WellFormed.{geometric}
 
@@ -142,10 +142,6 @@ deleteDirectory st t w = do
 -- ---- 8 map page: P1.D1 directory ADD_DST; P2.D1 directory ADD_SRC; P1.D0, P2.D0 positions; P3.D0 index; P3.D1 page flags
 abbrev pub inSpan : Span → ℕ → Bool
 inSpan d i = leb (d .low) i & leb i (d .high)
-
-pub record Frame : Type 0 where
-  pub frame : ℕ
-  pub flags : ℕ
 
 abbrev pub asPage : Refusal → Position → Try Frame
 asPage r Empty = no! r

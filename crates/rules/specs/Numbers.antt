@@ -7,7 +7,7 @@ use Rattle.words.specs.Fields.{capabilityNumber}
 use Rattle.words.specs.Rights.{has, placeThawed}
 use Rattle.words.specs.Tests.{_&_}
 use Rattle.words.specs.Try.{_>>_, _>>=_, Try, need, no!, ok!}
-use Rattle.rules.specs.Names.{Blank, CapFlag, CapFrozen, CapRange, CapType, Capability, CapabilityNumber, Directory, Endpoint, Function, Holds, KernelAddress, Kind, Memory, PgtHw, Place, Process, Refusal, Slot, Table}
+use Rattle.rules.specs.Names.{Blank, CapFlag, CapFrozen, CapRange, CapType, Capability, CapabilityNumber, Directory, Endpoint, Function, FunctionRange, Holds, Kind, Memory, PgtHw, Place, Process, Refusal, Slot, Span, Stretch, Table}
 
 -- what a place holds, or the refusal r where it is blank
 abbrev pub filled : Refusal → Place → Try Capability
@@ -20,20 +20,6 @@ rightAt st t e = do
   need (ltb e (entriesIn st t)) CapRange
   need (placeThawed (placeAt st t e)) CapFrozen
   filled CapType (placeAt st t e)
-
--- what a directory, a memory and a function right give: the object, or the range
-pub record Span : Type 0 where
-  pub object : Slot
-  pub low : ℕ
-  pub high : ℕ
-
-pub record Stretch : Type 0 where
-  pub low : KernelAddress
-  pub high : KernelAddress
-
-pub record FunctionRange : Type 0 where
-  pub low : ℕ
-  pub high : ℕ
 
 -- TYPE for "other kind", one for each kind
 unfoldable pub asTable : Kind → Try Slot

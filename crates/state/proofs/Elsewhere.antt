@@ -1,21 +1,44 @@
--- What stands in each slot after a run of slots was replaced: the new ones in the run, and elsewhere what stood there.
+-- What stands in each slot after a change of the state: what was written, and elsewhere what stood there.
 use mathlib.Core.Path.{_≡_, refl, sym, _∙_, ap}
 use mathlib.Core.Bool.{Bool, true, false}
-use mathlib.Core.List.{List, _++_}
-use Prim.Native.Nat.{ℕ, zero, suc, _+_, _-_, _<_, _≤_}
+use mathlib.Core.List.{List, [], _∷_, _++_}
+use Prim.Native.Nat.{ℕ, zero, suc, _+_, _*_, _-_, _<_, _≤_}
 use native.Mathlib.Nat.{add-zero}
 use native.Mathlib.Omega.{arith}
 use lib.Dec.{ltb}
-use lib.ListN.{length, getD, take, drop, replicate, length-replicate, List·getD-append}
+use lib.ListN.{length, set, length-set, getD, take, drop, replicate, length-replicate, List·getD-append}
 use lib.Seq.{getD-append-add, getD-take, getD-drop, length-take-le}
 use borrow.Author.Tests.{ltb-true, ltb-false}
+use Rattle.words.specs.Sizes.{slotsFor}
 use Rattle.words.specs.Fields.{slot}
-use Rattle.state.specs.Names.{Slot}
-use Rattle.state.specs.State.{Object, free, State, sizeOf, objAt, splice, risen, raise, raze}
+use Rattle.state.specs.Names.{Slot, Spot, Place}
+use Rattle.state.specs.State.{Object, free, table, State, sizeOf, placesOf, objAt, entriesIn, splice, putPlace, risen, raise, raze}
 use Rattle.state.specs.Layout.{Laid}
 use Rattle.state.specs.Bytes.{tagOf}
+use Rattle.state.proofs.Write.{is-table}
 use Rattle.state.proofs.Run.{risen-length, object-fits, object-part}
 
+-- ---- one object replaced: a view f that the new one shares with the old one is kept in every slot
+put-keeps : {A B : Type 0} (f : A → B) (l : List A) (i j : ℕ) (a d : A) → f a ≡ f (getD l i d) → f (getD (set l i a) j d) ≡ f (getD l j d)
+put-keeps f [] i j a d e = refl
+put-keeps f (x ∷ l) zero zero a d e = e
+put-keeps f (x ∷ l) zero (suc j) a d e = refl
+put-keeps f (x ∷ l) (suc i) zero a d e = refl
+put-keeps f (x ∷ l) (suc i) (suc j) a d e = put-keeps f l i j a d e
+
+module _ (st : State) (p : Spot) (x : Place) (h : p .entry < entriesIn st (p .table)) where
+  pub place-size : (t : Slot) → sizeOf (objAt (putPlace st p x) t) ≡ sizeOf (objAt st t)
+  place-size t =
+      let ps : List Place = placesOf (objAt st (p .table)) in
+      put-keeps sizeOf (st .slots) (p .table .0) (t .0) (table (set ps (p .entry) x)) free
+      (ap (λ (n : ℕ). slotsFor (32 * n)) (length-set ps (p .entry) x) ∙ ap sizeOf (sym (is-table (objAt st (p .table)) (p .entry) h)))
+
+  pub place-tag : (t : Slot) → tagOf (objAt (putPlace st p x) t) ≡ tagOf (objAt st t)
+  place-tag t =
+      put-keeps tagOf (st .slots) (p .table .0) (t .0) (table (set (placesOf (objAt st (p .table))) (p .entry) x)) free
+      (ap tagOf (sym (is-table (objAt st (p .table)) (p .entry) h)))
+
+-- ---- a run of slots replaced
 module _ {A : Type 0} (d : A) (v l : List A) (n : ℕ) (fits : n + length v ≤ length l) where
   pub splice-below : (i : ℕ) → i < n → getD (splice n v l) i d ≡ getD l i d
   unfolding splice

@@ -21,3 +21,7 @@ pub use Rattle.words.specs.declared.fields.Words.{Words}
 pub use Rattle.words.specs.declared.actions.Spot.{Spot}
 pub use Rattle.words.specs.declared.actions.Action.{Action}
 pub use Rattle.words.specs.declared.actions.Action.the-variants.{CreateTable, CreateDirectory, CreateProcess, CreateEndpoint, Delete, Fill, Freeze, Remove, SetPosition, ChangeTable, ChangeDirectory, SetCount, Answer}
+pub use Rattle.words.specs.declared.capabilities.Span.{Span}
+pub use Rattle.words.specs.declared.capabilities.Stretch.{Stretch}
+pub use Rattle.words.specs.declared.capabilities.FunctionRange.{FunctionRange}
+pub use Rattle.words.specs.declared.capabilities.Frame.{Frame}

@@ -6,9 +6,9 @@ use native.Mathlib.Omega.{arith}
 use lib.Dec.{eqb, ltb}
 use lib.Arith.{digits-div, digits-mod}
 use borrow.Author.Tests.{eqb-true, eq-eqb, lt-ltb, ltb-true}
-use Rattle.words.specs.Names.{Grant, Packed, Refusal, CapFlag}
+use Rattle.words.specs.Names.{Grant, Packed, CapFlag}
 use Rattle.words.specs.Tests.{_&_}
-use Rattle.words.specs.Try.{Try, no!, ok!, _>>_, need}
+use Rattle.words.specs.Try.{no!, ok!, _>>_, need}
 use Rattle.words.specs.Fields.{address}
 use Rattle.words.specs.Grants.{upperOf, lowerOf, unpack, packable, packed, pack}
 use Rattle.words.proofs.Tests.{and-left, and-right}

@@ -3,10 +3,10 @@ use mathlib.Core.Bool.{Bool}
 use Prim.Native.Nat.{ℕ, _+_, _*_, _/_, _%_}
 use lib.Dec.{eqb, ltb}
 use Rattle.words.specs.Names.{Grant, Packed, Packing, CapFlag}
-use Rattle.words.specs.declared.grants.Packing.the-variants as P
 use Rattle.words.specs.Tests.{_&_}
 use Rattle.words.specs.Try.{Try, no!, ok!, _>>_, need}
 use Rattle.words.specs.Fields.{address, D1, D0}
+use Rattle.words.specs.declared.grants.Packing.the-variants as P
 
 -- "unpacking takes every pair of words"
 abbrev pub upperOf : Packed → ℕ

@@ -55,6 +55,30 @@ pub struct Geometry {
     pub start: u32,
 }
 
+// What a right gives to the stage that uses it: a directory and the positions that the right ranges over; the addresses of a
+// memory right, from low to below high; the numbers of a function right.
+pub struct Span {
+    pub object: Slot,
+    pub low: u32,
+    pub high: u32,
+}
+
+pub struct Stretch {
+    pub low: KernelAddress,
+    pub high: KernelAddress,
+}
+
+pub struct FunctionRange {
+    pub low: u32,
+    pub high: u32,
+}
+
+// What a position that holds a page gives.
+pub struct Frame {
+    pub frame: u32,
+    pub flags: u32,
+}
+
 pub fn is_thawed(f: Frost) -> bool
     ensures { λ r. ⌜ r ≡ isThawed f ⌝ }
 {

@@ -2,54 +2,40 @@
 use borrow.Author.Needs.{needs}
 use Rattle.words.proofs.kinds.object_of.Statement.{statement}
 use Rattle.words.proofs.kinds.object_of.Tie as tie
-use Rattle.words.proofs.kinds.object_of.Reads as reads
-use Rattle.words.proofs.kinds.object_of.Lts as lts
 
--- src/kinds.rt:25:21
 enum-known-k : tie.Need-enum-known-k
 enum-known-k c = search needs
 
--- src/kinds.rt:26:27
 enum-known-k-2 : tie.Need-enum-known-k-2
 enum-known-k-2 c = search needs
 
--- src/kinds.rt:27:45
 enum-told : tie.Need-enum-told
 enum-told c = search needs
 
--- src/kinds.rt:28:23
 enum-known-k-3 : tie.Need-enum-known-k-3
 enum-known-k-3 c = search needs
 
--- src/kinds.rt:29:24
 enum-known-k-4 : tie.Need-enum-known-k-4
 enum-known-k-4 c = search needs
 
--- src/kinds.rt:30:47
 enum-told-2 : tie.Need-enum-told-2
 enum-told-2 c = search needs
 
--- src/kinds.rt:21:1
 returns : tie.Need-returns
 returns c = search needs
 
--- src/kinds.rt:21:1
 returns-2 : tie.Need-returns-2
 returns-2 c = search needs
 
--- src/kinds.rt:21:1
 returns-3 : tie.Need-returns-3
 returns-3 c = cc
 
--- src/kinds.rt:21:1
 returns-4 : tie.Need-returns-4
 returns-4 c = search needs
 
--- src/kinds.rt:21:1
 returns-5 : tie.Need-returns-5
 returns-5 c = search needs
 
--- src/kinds.rt:21:1
 returns-6 : tie.Need-returns-6
 returns-6 c = cc
 
