@@ -18,11 +18,14 @@ fn joined(a: u8, b: u8, c: u8, d: u8) -> u32
     (a as u32) + (b as u32) * 256 + (c as u32) * 65536 + (d as u32) * 16777216
 }
 
-// Four bytes, the lowest first.
+// Four bytes, the lowest first. Where all four lie in the buffer, one test serves for them.
 pub fn word_at(s: &[u8], at: usize) -> u32
     requires { ⌜ at ≤ 65535 ⌝ }
     ensures { λ r. ⌜ r ≡ wordAt (now (s .entry)) at ⌝ }
 {
+    if at + 4 <= s.len() {
+        return joined(s[at], s[at + 1], s[at + 2], s[at + 3]);
+    }
     joined(
         byte_at(s, at),
         byte_at(s, at + 1),

@@ -1,0 +1,1 @@
+//! What the drivers share and that needs no kernel.

@@ -1,0 +1,22 @@
+//! An independent model of the capability kernel, written from document 01 and docs/LAYOUT.md.
+//! It works on the bytes of a state and is what the proved kernel is compared with.
+#![forbid(unsafe_code)]
+
+mod boot;
+mod calls;
+mod check;
+pub mod drive;
+mod entry;
+mod grant;
+pub mod kinds;
+pub mod layout;
+mod lookup;
+mod objects;
+pub mod refusal;
+
+pub use boot::{boot, tick};
+pub use calls::{apply, call};
+pub use check::{check, verdict, Fault};
+pub use entry::Entry;
+pub use grant::{pack, unpack};
+pub use layout::{State, SIZE};
