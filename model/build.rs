@@ -11,7 +11,10 @@ fn main() {
         Ok(archive) if !archive.is_empty() => {
             let path = Path::new(&archive);
             assert!(path.is_file(), "KERNEL_ARCHIVE: no file {archive}");
-            assert!(path.is_absolute(), "KERNEL_ARCHIVE must be an absolute path");
+            assert!(
+                path.is_absolute(),
+                "KERNEL_ARCHIVE must be an absolute path"
+            );
             println!("cargo::rerun-if-changed={archive}");
             println!("cargo::rustc-link-arg-bins={archive}");
         }

@@ -63,6 +63,7 @@ pub fn tick(s: &mut [u8]) -> i32 {
     let Ok(s) = <&mut State>::try_from(s) else {
         return STATE;
     };
-    put(s, CLOCK, clock(s).wrapping_add(1));
+    let next = clock(s).wrapping_add(1);
+    put(s, CLOCK, next);
     0
 }

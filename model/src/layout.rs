@@ -43,7 +43,8 @@ pub mod holds {
 }
 
 pub fn word(s: &[u8], at: usize) -> u32 {
-    u32::from_le_bytes([s[at], s[at + 1], s[at + 2], s[at + 3]])
+    let bytes = &s[at..at + 4];
+    u32::from_le_bytes([bytes[0], bytes[1], bytes[2], bytes[3]])
 }
 
 pub fn put(s: &mut [u8], at: usize, word: u32) {

@@ -3,8 +3,8 @@
 use crate::entry::{kind_at, parent_at};
 use crate::kinds;
 use crate::layout::{
-    argument, holds, memory_of, note_of, place_of, position_of, put, tag, word, State, BASE,
-    SLOTS, SLOT_BYTES,
+    argument, holds, memory_of, note_of, place_of, position_of, put, tag, word, State, BASE, SLOTS,
+    SLOT_BYTES,
 };
 
 /// The number of entries of the table at a slot.

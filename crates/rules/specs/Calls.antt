@@ -1,6 +1,6 @@
 -- The twenty calls in the order of document 01's table: each is its arguments from left to right, then its own steps.
 use mathlib.Core.Bool.{Bool, false, not, true}
-use mathlib.Core.List.{[], _∷_}
+use mathlib.Core.List.{List, [], _∷_}
 use Prim.Native.Nat.{_%_, _*_, _+_, _-_, _/_, _^_, min, ℕ}
 use lib.Dec.{eqb, leb, ltb}
 use lib.ListN.{getD}
@@ -294,12 +294,17 @@ function st t w = do
 abbrev pub noCall : State → Slot → Words → Try Action
 noCall st t w = no! BadCall
 
-abbrev pub callOf : ℕ → State → Slot → Words → Try Action
-callOf n = getD (noCall
+-- the calls by their numbers
+abbrev pub callTable : List (State → Slot → Words → Try Action)
+callTable =
+    noCall
     ∷ createTable ∷ deleteTable ∷ delegate ∷ freeze ∷ remove
     ∷ createDirectory ∷ deleteDirectory ∷ mapPage ∷ removePage ∷ construct
     ∷ destruct ∷ createProcess ∷ deleteProcess ∷ changeTable ∷ changeDirectory
-    ∷ createEndpoint ∷ deleteEndpoint ∷ send ∷ receive ∷ function ∷ []) n noCall
+    ∷ createEndpoint ∷ deleteEndpoint ∷ send ∷ receive ∷ function ∷ []
+
+abbrev pub callOf : ℕ → State → Slot → Words → Try Action
+callOf n = getD callTable n noCall
 
 -- ---- −18: "caller is not a live process's slot"; the caller's table
 unfoldable pub callerTable : Object → Try Slot

@@ -9,3 +9,4 @@ pub mod Run
 pub mod LaidAfter
 pub mod Elsewhere
 pub mod New
+pub mod WithPlace

@@ -63,7 +63,7 @@ run-fits xs k n =
     let whole : each memoryBytes xs ≡ each memoryBytes (take k xs) ++ (each memoryBytes (take n (drop k xs)) ++ each memoryBytes (drop n (drop k xs))) =
     ap (each memoryBytes) (sym (take-append-drop k xs)) ∙ each-append memoryBytes (take k xs) (drop k xs)
     ∙ ap (λ (r : List ℕ). each memoryBytes (take k xs) ++ r)
-      (ap (each memoryBytes) (sym (take-append-drop n (drop k xs))) ∙ each-append memoryBytes (take n (drop k xs)) (drop n (drop k xs))) in
+    (ap (each memoryBytes) (sym (take-append-drop n (drop k xs))) ∙ each-append memoryBytes (take n (drop k xs)) (drop n (drop k xs))) in
     omega (arith, simp length-append at (ap length whole))
 
 -- ---- the bytes of the two runs that are written
@@ -111,9 +111,9 @@ module _ (st : State) (w : Laid st) where
       ap₂ (λ (m b : List ℕ). m ++ (b ++ end)) em en
       ∙ sym (splice-left memory (splice (4 * k) u notes ++ end) v (64 * k) fm)
       ∙ ap (splice (64 * k) v)
-        (ap (λ (r : List ℕ). memory ++ r) (sym (splice-left notes end u (4 * k) fn))
-        ∙ sym (splice-right memory (notes ++ end) u (4 * k))
-        ∙ ap (λ (i : ℕ). splice (i + 4 * k) u (memory ++ (notes ++ end))) (memory-whole st w))
+      (ap (λ (r : List ℕ). memory ++ r) (sym (splice-left notes end u (4 * k) fn))
+      ∙ sym (splice-right memory (notes ++ end) u (4 * k))
+      ∙ ap (λ (i : ℕ). splice (i + 4 * k) u (memory ++ (notes ++ end))) (memory-whole st w))
 
   -- a new object where all its slots are free
   pub bytes-raise : (s : Slot) (o : Object) → 1 ≤ sizeOf o → s .0 + sizeOf o ≤ 256 → ((i : ℕ) → i < sizeOf o → objAt st (slot (s .0 + i)) ≡ free)
@@ -125,7 +125,7 @@ module _ (st : State) (w : Laid st) where
       let was : take n (drop (s .0) (st .slots)) ≡ replicate n free =
       ap (λ (i : ℕ). take i (drop (s .0) (st .slots))) (sym (length-replicate n free))
       ∙ run-is (st .slots) (replicate n free) (s .0) (omega (arith, length-replicate n free, w .room))
-        (λ i h. let below : i < n = omega (arith, length-replicate n free) in none i below ∙ sym (getD-replicate n i free free below)) in
+      (λ i h. let below : i < n = omega (arith, length-replicate n free) in none i below ∙ sym (getD-replicate n i free free below)) in
       bytes-run (s .0) (risen s o) (omega arith) (λ z. omega (arith, ap tagOf first)) (omega arith)
       (ap length (risen-memory s o) ∙ memory-length o ∙ sym (length-replicate {A = ℕ} (64 * n) 0) ∙ ap length (sym (free-memory n))
       ∙ ap (λ (l : List Object). length (each memoryBytes l)) (sym was) ∙ ap (λ (i : ℕ). length (each memoryBytes (take i (drop (s .0) (st .slots))))) (sym long))

@@ -6,9 +6,7 @@ use crate::entry::{blank, Entry};
 use crate::kinds::{self, directory, memory, PAGE_FLAGS};
 use crate::layout::{directory_slots, holds, position_of, tag, word, State, POSITION_BYTES};
 use crate::lookup::{address, capability, place_to_delete, place_to_fill};
-use crate::objects::{
-    free, hangs, head, hold, is_top, number_order, positions, size_order, stand,
-};
+use crate::objects::{free, hangs, head, hold, is_top, number_order, positions, size_order, stand};
 use crate::refusal::{unless, FLAG, PGT_ADDR, PGT_HW, PGT_MAP, PGT_PERM};
 
 /// Call 6: "C table CRT; P1.D1 memory PGTBL; Q1 place; Q0 size order, N[15:8] number order, P3

@@ -3,9 +3,7 @@
 use super::fault::{ensure, Fault};
 use super::{is_zero, stands};
 use crate::kinds::PAGE_FLAGS;
-use crate::layout::{
-    argument, holds, memory_of, tag, word, State, HEADING_BYTES, POSITION_BYTES,
-};
+use crate::layout::{argument, holds, memory_of, tag, word, State, HEADING_BYTES, POSITION_BYTES};
 
 /// A directory in its slots, with the number order from its note.
 pub fn directory(s: &State, bytes: &[u8], number_order: u32) -> Result<(), Fault> {
@@ -55,8 +53,8 @@ fn child(s: &State, slot: u32, size_order: u32) -> Result<(), Fault> {
 pub fn process(s: &State, bytes: &[u8]) -> Result<(), Fault> {
     let (table, directory) = (word(bytes, 0), word(bytes, 4));
     ensure(stands(s, table, tag::TABLE), Fault::ProcessTable)?;
-    let is_top = stands(s, directory, tag::DIRECTORY)
-        && word(s, memory_of(directory as usize) + 4) == 1;
+    let is_top =
+        stands(s, directory, tag::DIRECTORY) && word(s, memory_of(directory as usize) + 4) == 1;
     ensure(is_top, Fault::ProcessDirectory)?;
     ensure(is_zero(&bytes[8..]), Fault::ProcessPadding)
 }

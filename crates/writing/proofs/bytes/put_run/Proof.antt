@@ -41,12 +41,13 @@ loop-again c =
     let v = start .args .v in
     let ws = replicate (start .args .n) v in
     let below : i < start .args .n = omega arith in
-    let same : getD ws i 0 ≡ v = getD-replicate (start .args .n) i v 0 below in
-    (omega arith,
-    omega arith,
-    put .ensures ∙ ap (λ (l : List ℕ). splice (i * 4) (le32 v) l) (at .loop .inv .2)
-    ∙ ap (λ (x : ℕ). splice (i * 4) (le32 x) (wordsBytes (take i ws) ++ drop (4 * i) (now (start .args .part)))) (sym same)
-    ∙ put-more ws (now (start .args .part)) i (omega (arith, length-replicate (start .args .n) v)))
+    let same : getD ws i 0 ≡ v = getD-replicate (start .args .n) i v 0 below in (
+      omega arith,
+      omega arith,
+      put .ensures ∙ ap (λ (l : List ℕ). splice (i * 4) (le32 v) l) (at .loop .inv .2)
+          ∙ ap (λ (x : ℕ). splice (i * 4) (le32 x) (wordsBytes (take i ws) ++ drop (4 * i) (now (start .args .part)))) (sym same)
+          ∙ put-more ws (now (start .args .part)) i (omega (arith, length-replicate (start .args .n) v)),
+    )
 
 same-length : tie.Need-same-length Inv-loop μ-loop
 same-length c = omega arith

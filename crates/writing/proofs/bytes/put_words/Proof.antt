@@ -45,10 +45,11 @@ loop-again c =
     let start = at .before .before .before in
     let i = at .loop .i in
     let ws = now (start .args .ws) in
-    let below : i < length ws = omega arith in
-    (omega arith,
-    omega arith,
-    put .ensures ∙ ap (λ (l : List ℕ). splice (i * 4) (le32 (getD ws i 0)) l) (at .loop .inv .2) ∙ put-more ws (now (start .args .part)) i below)
+    let below : i < length ws = omega arith in (
+      omega arith,
+      omega arith,
+      put .ensures ∙ ap (λ (l : List ℕ). splice (i * 4) (le32 (getD ws i 0)) l) (at .loop .inv .2) ∙ put-more ws (now (start .args .part)) i below,
+    )
 
 same-length : tie.Need-same-length Inv-loop μ-loop
 same-length c = omega arith

@@ -1,0 +1,4 @@
+pub mod Given
+pub mod OfKind
+pub mod Arguments
+pub mod Walks

@@ -1,0 +1,128 @@
+//! Damages of the slots' notes, of free slots, and of whole objects.
+
+use super::pick::{any_blank, any_object, any_tagged, bit};
+use super::{damage, Damage, Level};
+use crate::drive::look::places;
+use crate::drive::rng::Rng;
+use crate::entry::{blank, Entry};
+use crate::kinds;
+use crate::layout::{
+    argument, directory_slots, memory_of, note_of, table_slots, tag, State, CLOCK, NOTES, SLOTS,
+};
+use crate::objects;
+
+pub const AIMED: [Damage; 11] = [
+    damage("note: a bit", Level::Bit, |s, r| bit(s, r, NOTES, CLOCK)),
+    damage("note: a bit of an object's", Level::Bit, |s, r| {
+        let at = note_of(any_object(s, r)?);
+        bit(s, r, at, at + 4)
+    }),
+    damage("note: padding", Level::Bit, |s, r| {
+        let at = note_of(r.below(SLOTS)) + 2;
+        bit(s, r, at, at + 2)
+    }),
+    damage("note: tag", Level::Byte, |s, r| {
+        s[note_of(r.below(SLOTS))] = r.within(0, 6) as u8;
+        Some(())
+    }),
+    damage("note: argument", Level::Byte, |s, r| {
+        s[note_of(r.below(SLOTS)) + 1] = r.within(0, 70) as u8;
+        Some(())
+    }),
+    damage("note: size of an object by one", Level::Byte, |s, r| {
+        let at = note_of(any_object(s, r)?) + 1;
+        s[at] = r.pick(&[s[at].wrapping_add(1), s[at].wrapping_sub(1)]);
+        Some(())
+    }),
+    damage("free slot: a bit", Level::Bit, |s, r| {
+        let at = memory_of(any_tagged(s, r, tag::FREE)?);
+        bit(s, r, at, at + 64)
+    }),
+    damage("object: grown over what follows", Level::Many, overlap),
+    damage("object: past the end of memory", Level::Many, past_the_end),
+    damage("object: put up, or without root", Level::Many, put_up),
+    damage("object: taken down, or in part", Level::Many, take_down),
+];
+
+/// A table or directory is noted as larger than it is, with its later slots' notes to match.
+fn overlap(s: &mut State, r: &mut Rng) -> Option<()> {
+    let wanted = r.pick(&[tag::TABLE, tag::DIRECTORY]);
+    let first = any_tagged(s, r, wanted)?;
+    let (grown, slots) = match wanted {
+        tag::TABLE => {
+            let n = (argument(s, first) as usize + 1 + r.below(4)).min(64);
+            (n as u8, table_slots(n))
+        }
+        _ => {
+            let n = (argument(s, first) + 1).min(8);
+            (n, directory_slots(n as u32))
+        }
+    };
+    objects::stand(s, first, slots.min(SLOTS - first), wanted, grown);
+    Some(())
+}
+
+/// An object noted in the last slots that would reach past the end of kernel memory.
+fn past_the_end(s: &mut State, r: &mut Rng) -> Option<()> {
+    let place = any_blank(s, r)?;
+    let first = SLOTS - 1 - r.below(3);
+    (first..SLOTS)
+        .all(|slot| tag(s, slot) == tag::FREE)
+        .then_some(())?;
+    let (wanted, given) = r.pick(&[(tag::TABLE, 64), (tag::TABLE, 7), (tag::DIRECTORY, 4)]);
+    objects::stand(s, first, SLOTS - first, wanted, given);
+    let right = match wanted {
+        tag::TABLE => Entry::root(kinds::TABLE, 0, 0, first),
+        _ => {
+            objects::head(s, first, 10, false, 0);
+            Entry::root(kinds::DIRECTORY, 0, 15, first)
+        }
+    };
+    right.write(s, place);
+    Some(())
+}
+
+/// A new object of one slot, most often with its root.
+fn put_up(s: &mut State, r: &mut Rng) -> Option<()> {
+    let place = any_blank(s, r)?;
+    let slot = any_tagged(s, r, tag::FREE)?;
+    let (kind, wanted, given, high) = r.pick(&[
+        (kinds::TABLE, tag::TABLE, 2, 0),
+        (kinds::TABLE, tag::TABLE, 1, 0),
+        (kinds::DIRECTORY, tag::DIRECTORY, 2, 3),
+        (kinds::ENDPOINT, tag::ENDPOINT, 0, 0),
+    ]);
+    objects::stand(s, slot, 1, wanted, given);
+    if kind == kinds::DIRECTORY {
+        let size = r.within(4, 32);
+        objects::head(s, slot, size, r.chance(50), 0);
+    }
+    if r.chance(70) {
+        Entry::root(kind, 0, high, slot).write(s, place);
+    }
+    Some(())
+}
+
+/// An object goes, or its rights, or both.
+fn take_down(s: &mut State, r: &mut Rng) -> Option<()> {
+    let first = any_object(s, r)?;
+    let (kind, slots) = match tag(s, first) {
+        tag::TABLE => (kinds::TABLE, table_slots(argument(s, first) as usize)),
+        tag::DIRECTORY => (kinds::DIRECTORY, directory_slots(argument(s, first) as u32)),
+        tag::PROCESS => (kinds::PROCESS, 1),
+        _ => (kinds::ENDPOINT, 1),
+    };
+    let (rights, object) = r.pick(&[(true, false), (false, true), (true, true)]);
+    if rights {
+        for place in places(s) {
+            let e = Entry::read(s, place);
+            if e.kind == kind && e.object == first as u32 {
+                blank(s, place);
+            }
+        }
+    }
+    if object {
+        objects::free(s, first, slots);
+    }
+    Some(())
+}
