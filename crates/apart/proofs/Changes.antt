@@ -8,7 +8,7 @@ use lib.ListN.{getD}
 use Rattle.state.specs.State.{Object, State, free, placesOf}
 use Rattle.apart.specs.Demand3.{Joined, Same}
 use Rattle.apart.specs.Names.{Blank}
-use Rattle.apart.specs.Reach.{In, extent, extentAt, formAt, formOf}
+use Rattle.apart.specs.Reach.{Covers, In, extent, extentAt, formAt, formOf}
 use Rattle.apart.proofs.Invariant.{Far, Inv, Own, SafeAt, far-forms, own-on, safe-on}
 use Rattle.apart.proofs.View.{Out, Put, Raised, Razed, Side, first, inSlot, later, outside, side}
 
@@ -48,7 +48,7 @@ module _ (M : ℕ → ℕ → Type 0) (a b : ℕ) where
     pub raised-same : ((x : ℕ) → f ≤ x → x < f + n → inSlot st x ≡ free) → Same a b st r
     raised-same v = record {
       slots = λ x i. ap formOf (w .rest x (clear x i));
-      objects = λ g x i c. ap formOf (w .rest g (λ l m. let z : x < g + 0 = rw (v g l m) at (c .1) in let y = c .0 in omega arith));
+      objects = λ g x i c. ap formOf (w .rest g (λ l m. let z = rw (v g l m) at (c .1) in let y = c .0 in omega arith));
     }
 
     pub raised-inv : (C R : ℕ → Type 0) → ((j : ℕ) → getD (placesOf o) j Blank ≡ Blank) → Own R o → Inv M a b st C R → Inv M a b r (Joined C st r) (λ u. R u ⊎ (u ≡ f))
@@ -94,12 +94,12 @@ module _ (M : ℕ → ℕ → Type 0) (a b : ℕ) where
     pub razed-same : ((x : ℕ) → f < x → x < f + extentAt st f → extentAt st x ≡ 0) → Same a b st r
     razed-same inner = record {
       slots = λ x i. ap formOf (w .rest x (far x i));
-      objects = λ g x i c. ap formOf (w .rest g (λ l m. go g x i (c .0) (c .1) l m (ℕ-discrete g f)));
+      objects = λ g x i c. ap formOf (w .rest g (λ l m. go g x i c l m (ℕ-discrete g f)));
     }
       where
-        go : (g x : ℕ) → In a b x → g ≤ x → x < g + extentAt st g → f ≤ g → g < f + extentAt st f → Dec (g ≡ f) → ⊥
-        go g x i p q l m (yes e) = far x i (rw e at p) (rw e at q)
-        go g x i p q l m (no e) = let z : extentAt st g ≡ 0 = inner g (omega arith) m in omega arith
+        go : (g x : ℕ) → In a b x → Covers st g x → f ≤ g → g < f + extentAt st f → Dec (g ≡ f) → ⊥
+        go g x i c l m (yes e) = let p = c .0 in let q = rw e at (c .1) in far x i (omega arith) (omega arith)
+        go g x i c l m (no e) = let p = c .0 in let q = c .1 in let z : extentAt st g ≡ 0 = inner g (omega arith) m in omega arith
 
     pub razed-inv : (C R : ℕ → Type 0) → Inv M a b st C R → Inv M a b r C R
     razed-inv C R h = record { own = λ p c. owns p c (raze-cases p); rights = λ t e q. rights t e q (raze-cases t) }

@@ -3,6 +3,7 @@
 mod shared;
 
 use model::drive::api::{Api, MODEL};
+use model::drive::command;
 use model::drive::prepared::{self, Prepared};
 use model::State;
 use shared::kernel::{announce, KERNEL};
@@ -11,7 +12,7 @@ use std::time::Instant;
 
 fn main() {
     announce();
-    let runs = shared::number_argument(1, 2_001) as usize;
+    let runs = command::number(1, 2_001) as usize;
     println!(
         "median of {runs} runs each, in ns; the clock's own cost is {} ns",
         clock_cost(runs)

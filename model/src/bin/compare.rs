@@ -5,6 +5,7 @@
 mod shared;
 
 use model::drive::api::{Api, MODEL};
+use model::drive::command;
 use model::drive::coverage::Coverage;
 use model::drive::generator::{poke, Generator, Step};
 use model::drive::rng::Rng;
@@ -18,8 +19,8 @@ const SESSION: std::ops::RangeInclusive<u32> = 80..=800;
 
 fn main() {
     announce();
-    let calls = shared::number_argument(1, 1_000_000);
-    let seed = shared::number_argument(2, 1);
+    let calls = command::number(1, 1_000_000);
+    let seed = command::number(2, 1);
     println!("calls {calls}, seed {seed}");
     let mut met = Coverage::new();
     let mut made = Made::default();
@@ -27,7 +28,7 @@ fn main() {
     lengths(&mut rng);
     while made.calls < calls {
         made.sessions += 1;
-        let mut pair = Pair::booted(rng.next());
+        let mut pair = Pair::booted(rng.long());
         for _ in 0..rng.within(*SESSION.start(), *SESSION.end()) {
             pair.step(&mut met, &mut made);
         }

@@ -4,6 +4,7 @@
 
 mod shared;
 
+use model::drive::command;
 use model::drive::damages::{self, Damage, Level};
 use model::drive::generator::{poke, Generator, Step};
 use model::drive::rng::Rng;
@@ -18,8 +19,8 @@ const SOUND: usize = 24;
 
 fn main() {
     announce();
-    let buffers = shared::number_argument(1, 100_000);
-    let seed = shared::number_argument(2, 1);
+    let buffers = command::number(1, 100_000);
+    let seed = command::number(2, 1);
     println!("buffers {buffers}, seed {seed}");
     let mut rng = Rng::new(seed);
     let mut tally = Tally::default();
@@ -92,7 +93,7 @@ fn sound_states(rng: &mut Rng) -> Vec<Box<State>> {
     let mut all = vec![booted, ticked];
     while all.len() < SOUND {
         let mut s = all[0].clone();
-        let mut generator = Generator::new(rng.next());
+        let mut generator = Generator::new(rng.long());
         let mut left = rng.within(20, 400);
         while left > 0 || !generator.at_rest() {
             left = left.saturating_sub(1);

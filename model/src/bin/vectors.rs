@@ -1,8 +1,7 @@
 //! vectors [calls] [seed] [file]: records sessions of generated calls by the model, chosen so that
 //! every possible pair of call and answer is met, for a program that replays them on the kernel.
 
-mod shared;
-
+use model::drive::command;
 use model::drive::coverage::Coverage;
 use model::drive::generator::{poke, Generator, Step};
 use model::drive::rng::Rng;
@@ -15,8 +14,8 @@ const SESSION_STEPS: usize = 300;
 const LOOKED_AT: usize = 100_000;
 
 fn main() {
-    let calls = shared::number_argument(1, 20_000) as usize;
-    let seed = shared::number_argument(2, 1);
+    let calls = command::number(1, 20_000) as usize;
+    let seed = command::number(2, 1);
     let path = std::env::args().nth(3).unwrap_or("vectors.txt".into());
     let mut rng = Rng::new(seed);
     let mut met = Coverage::new();
@@ -28,7 +27,7 @@ fn main() {
         if complete && made >= calls {
             break;
         }
-        let session = Session::run(rng.next());
+        let session = Session::run(rng.long());
         let news = session.pairs.iter().any(|&(n, a)| met.met(n, a) == 0);
         if news || complete {
             session.pairs.iter().for_each(|&(n, a)| {

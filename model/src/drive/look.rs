@@ -55,7 +55,7 @@ pub fn under(s: &State, table: usize, number: u32) -> Option<Entry> {
     if number < 128 {
         return entry_at(s, table, number);
     }
-    let middle = entry_at(s, table, number / 256 & 127)?;
+    let middle = entry_at(s, table, (number / 256) & 127)?;
     match middle.kind {
         kinds::TABLE => entry_at(s, middle.object as usize, number % 128),
         _ => None,

@@ -3,6 +3,7 @@
 
 pub mod api;
 pub mod arguments;
+pub mod command;
 pub mod coverage;
 pub mod damages;
 pub mod generator;

@@ -147,7 +147,7 @@ impl Arguments<'_> {
         let holder = self.table_under(c);
         let spare = self.rng.chance(95);
         let place = self.place_where(holder, move |place, e| {
-            !e.is_blank() && !e.is_frozen() && !(spare && place < 6)
+            !(e.is_blank() || e.is_frozen() || spare && place < 6)
         });
         let p1 = self.whole(place);
         [self.nc(4, c), p1, self.unread(), self.unread()]

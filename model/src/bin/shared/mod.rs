@@ -1,16 +1,5 @@
-//! What the drivers that meet the kernel have in common.
+//! The kernel that the drivers are linked with: the archive, or the stub in its stead.
 
 pub mod kernel;
 #[cfg(stub)]
 mod stub;
-
-/// The n-th argument as a number, or a default.
-pub fn number_argument(n: usize, default: u64) -> u64 {
-    match std::env::args().nth(n) {
-        None => default,
-        Some(text) => text.replace('_', "").parse().unwrap_or_else(|_| {
-            eprintln!("argument {n} must be a number, not {text}");
-            std::process::exit(2)
-        }),
-    }
-}
