@@ -2,3 +2,4 @@ pub mod Given
 pub mod OfKind
 pub mod Arguments
 pub mod Walks
+pub mod Stand

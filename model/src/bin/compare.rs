@@ -88,7 +88,9 @@ impl Pair {
                 let answers = self.both(|api, s| (api.call)(&mut s[..], caller, words));
                 made.calls += 1;
                 self.trace.call(caller, words, answers.0);
-                self.judge(&format!("call {caller} {words:#x?}"), answers);
+                let [w0, w1, w2, w3] = words;
+                let what = format!("call {caller} {w0:#x} {w1:#x} {w2:#x} {w3:#x}");
+                self.judge(&what, answers);
                 met.note(words[0] >> 16 & 63, answers.0);
             }
             Step::Tick => {

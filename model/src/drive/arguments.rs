@@ -153,13 +153,15 @@ impl Arguments<'_> {
             let free = look::free_run(self.s, self.rng, memory.low, memory.high, slots);
             return free.unwrap_or(memory.low);
         }
-        match self.rng.below(8) {
+        match self.rng.below(9) {
             0 => memory.low.wrapping_sub(64),
             1 => memory.high,
             2 => memory.high.wrapping_sub(bytes),
             3 => memory.high.wrapping_sub(bytes).wrapping_add(64),
             4 => self.rng.within(BASE, END),
             5 => self.rng.word(),
+            // Its end passes 2^32, or just reaches it.
+            8 => 0u32.wrapping_sub(64 * self.rng.within(1, slots as u32)),
             6 => objects::address_of(self.rng.below(256)) | 1 << self.rng.below(32),
             _ => objects::address_of(self.rng.below(256)),
         }

@@ -197,10 +197,10 @@ impl Arguments<'_> {
         if self.slips() {
             match self.rng.below(5) {
                 0 => size = self.rng.within(0, 255),
-                1 => number = self.rng.pick(&[0, 9, 255, 8, 7]),
+                1 => number = self.rng.pick(&[0, 9, 255, 8, number | 0x10, number | 0x80]),
                 2 => start |= 1 << self.rng.within(1, 31),
                 3 => (size, number) = (31, 2),
-                _ => size = 5,
+                _ => size = self.rng.pick(&[5, 32, size | 0x20, size | 0x80]),
             }
         }
         let top = self.rng.chance(40) as u32;
