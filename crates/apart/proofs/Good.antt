@@ -1,4 +1,5 @@
--- What isolation asks of an action, and what a step must leave of the invariant. The calls are shown to meet the first; Kept.antt goes from the first to the second.
+-- What isolation asks of an action, and what a step must leave of the invariant. Actions.antt shows that the actions of passed plans meet the first,
+-- and Kept.antt goes from the first to the second.
 use mathlib.Core.Bool.{false}
 use mathlib.Core.Logic.{_⊎_}
 use mathlib.Core.Path.{_≡_}
@@ -23,12 +24,6 @@ module _ (M : ℕ → ℕ → Type 0) (a b : ℕ) where
     pub low : lo ≤ addressOf f
     pub high : addressOf (f + n) ≤ hi
 
-  -- and all of them free
-  pub record Plot (st : State) (f n : ℕ) : Type 0 where
-    pub lot : Lot f n
-    pub fits : f + n ≤ length (st .slots)
-    pub vacant : (x : ℕ) → f ≤ x → x < f + n → inSlot st x ≡ free
-
   -- the object at x becomes o, of the same form; a caller's table stays one of R, and the rights in a table of R stay safe
   pub record GoodPut (st : State) (C R : ℕ → Type 0) (x : ℕ) (o : Object) : Type 0 where
     pub form : formOf o ≡ formAt st x
@@ -41,11 +36,13 @@ module _ (M : ℕ → ℕ → Type 0) (a b : ℕ) where
     pub entry : p .entry < entriesIn st (p .table)
     pub safe : SafeAt M a b st R x
 
-  -- an object o without rights is made at s, its root at p; the table that a new process names is one of R
+  -- an object o without rights is made at s in n free slots, its root at p; the table that a new process names is one of R
   pub record GoodCreate (st : State) (R : ℕ → Type 0) (p : Spot) (s : Slot) (o : Object) (k : Kind) : Type 0 where
     pub n : ℕ
     pub entry : p .entry < entriesIn st (p .table)
-    pub plot : Plot st (s .0) n
+    pub lot : Lot (s .0) n
+    pub fits : s .0 + n ≤ length (st .slots)
+    pub vacant : (x : ℕ) → s .0 ≤ x → x < s .0 + n → inSlot st x ≡ free
     pub some : 0 < n
     pub size : sizeOf o ≡ n
     pub extends : extent (formOf o) ≡ n

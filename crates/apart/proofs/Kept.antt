@@ -62,7 +62,7 @@ module _ (M : ℕ → ℕ → Type 0) (a b : ℕ) (M-clear : Clear M a b) where
   create-kept st C R p s o k h g = record {
     reach = Q;
     inv = record { own = λ u c. inv₂ .own u (back u c); rights = inv₂ .rights };
-    same = same-trans a b st r₁ r₂ (raised-same M a b st r₁ (s .0) (g .n) o w (g .extends) (g .some) clear (g .plot .vacant)) (same-forms a b r₁ r₂ forms);
+    same = same-trans a b st r₁ r₂ (raised-same M a b st r₁ (s .0) (g .n) o w (g .extends) (g .some) clear (g .vacant)) (same-forms a b r₁ r₂ forms);
     made = λ x m. made x m (side (s .0) (g .n) x);
   }
     where
@@ -76,13 +76,13 @@ module _ (M : ℕ → ℕ → Type 0) (a b : ℕ) (M-clear : Clear M a b) where
       Q u = R u ⊎ (u ≡ s .0)
 
       w : Raised st r₁ (s .0) (g .n) o
-      w = raised st s o (g .n) (g .size) (g .some) (g .plot .fits)
+      w = raised st s o (g .n) (g .size) (g .some) (g .fits)
 
       clear : (x : ℕ) → In a b x → Out (s .0) (g .n) x
-      clear x i l q = M-clear (g .plot .lot .lo) (g .plot .lot .hi) x (g .plot .lot .mem) i (omega (arith, g .plot .lot .high)) (omega (arith, g .plot .lot .low))
+      clear x i l q = M-clear (g .lot .lo) (g .lot .hi) x (g .lot .mem) i (omega (arith, g .lot .high)) (omega (arith, g .lot .low))
 
       t-out : Out (s .0) (g .n) (p .table .0)
-      t-out l q = not-suc-le-zero (rw (g .plot .vacant (p .table .0) l q) at (g .entry))
+      t-out l q = not-suc-le-zero (rw (g .vacant (p .table .0) l q) at (g .entry))
 
       safe : Safe M a b r₁ Q (rootRight k)
       safe = record {
@@ -113,7 +113,7 @@ module _ (M : ℕ → ℕ → Type 0) (a b : ℕ) (M-clear : Clear M a b) where
       back u (inr m) = inr (record { before = m .0 .before; after = rw (ap extent (forms u)) at (m .0 .after) }, sym (forms u) ∙ m .1)
 
       made : (x : ℕ) → Made st r₂ x → Side (s .0) (g .n) x → Lot M a b x (extentAt r₂ x)
-      made x m (first e) = rw (e, forms (s .0), w .head, g .extends) (g .plot .lot)
+      made x m (first e) = rw (e, forms (s .0), w .head, g .extends) (g .lot)
       made x m (later l q) = absurd (let z : 0 < 0 = rw (forms x, w .inner x l q) at (m .after) in omega arith)
       made x m (outside d) = absurd (let z : 0 < extentAt st x = rw (forms x, w .rest x d) at (m .after) in let y = m .before in omega arith)
 

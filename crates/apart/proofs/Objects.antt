@@ -1,4 +1,4 @@
--- What is known of an object tells its form: its number in well-formedness, that it is free, that it has an entry or a position.
+-- What is known of an object tells its form: its number in well-formedness, that it has an entry or a position.
 -- So what a call puts in its place has the same form.
 use mathlib.Core.Bool.{false≢true, true}
 use mathlib.Core.Path.{ap, refl, subst, sym, _∙_, _≡_}
@@ -8,44 +8,32 @@ use native.Mathlib.Nat.{not-suc-le-zero}
 use native.Mathlib.Omega.{arith}
 use lib.ListN.{List·getD-eq-default, getD, getD-replicate, length, length-replicate, length-set, replicate, set}
 use Rattle.rules.specs.WellFormed.{objectNo}
-use Rattle.state.proofs.Write.{is-directory, is-table}
+use Rattle.state.proofs.Write.{is-directory, is-endpoint, is-process, is-table}
 use Rattle.state.specs.Bytes.{tagOf}
-use Rattle.state.specs.State.{Object, State, body, bootMark, directory, directoryNamed, endpoint, entriesIn, free, isFree, objAt, placesOf, positionsIn, positionsOf, process, shapeOf, sizeOf, table, tableNamed}
+use Rattle.state.specs.State.{Object, State, body, bootMark, directory, endpoint, entriesIn, free, objAt, placesOf, positionsIn, positionsOf, process, shapeOf, sizeOf, table, tableNamed}
 use Rattle.words.specs.Rights.{isRoot}
 use Rattle.words.specs.Sizes.{entrySize, headerSize, positionSize, slotsFor}
 use Rattle.apart.specs.Names.{Blank, Origin, Place, Position, Root, Slot, Under}
 use Rattle.apart.specs.Reach.{Form, extent, formOf}
 use Rattle.apart.proofs.Invariant.{Own}
 
-pub free-of : (o : Object) → isFree o ≡ true → o ≡ free
-free-of free t = refl
-free-of (body f) t = absurd (false≢true t)
-free-of (table ps) t = absurd (false≢true t)
-free-of (directory g es) t = absurd (false≢true t)
-free-of (process u d) t = absurd (false≢true t)
-free-of (endpoint c b) t = absurd (false≢true t)
-
-process-is : (o : Object) → objectNo o ≡ 4 → o ≡ process (tableNamed o) (directoryNamed o)
-process-is free e = absurd (omega arith)
-process-is (body f) e = absurd (omega arith)
-process-is (table ps) e = absurd (omega arith)
-process-is (directory g es) e = absurd (omega arith)
-process-is (process u d) e = refl
-process-is (endpoint c b) e = absurd (omega arith)
+-- a process and an endpoint have their number as tag
+number-tag : (o : Object) → 4 ≤ objectNo o → tagOf o ≡ objectNo o
+number-tag free h = absurd (omega arith)
+number-tag (body f) h = absurd (omega arith)
+number-tag (table ps) h = absurd (omega arith)
+number-tag (directory g es) h = absurd (omega arith)
+number-tag (process u d) h = refl
+number-tag (endpoint c b) h = refl
 
 pub process-form : (o : Object) → objectNo o ≡ 4 → Form.process ≡ formOf o
-process-form o e = sym (ap formOf (process-is o e))
+process-form o e = sym (ap formOf (is-process o (number-tag o (omega arith) ∙ e)))
 
 pub process-own : (R : ℕ → Type 0) (o : Object) → objectNo o ≡ 4 → Own R o → R (tableNamed o .0)
-process-own R o e = subst (Own R) (process-is o e)
+process-own R o e = subst (Own R) (is-process o (number-tag o (omega arith) ∙ e))
 
 pub endpoint-form : (o : Object) → objectNo o ≡ 5 → Form.endpoint (bootMark o) ≡ formOf o
-endpoint-form free e = absurd (omega arith)
-endpoint-form (body f) e = absurd (omega arith)
-endpoint-form (table ps) e = absurd (omega arith)
-endpoint-form (directory g es) e = absurd (omega arith)
-endpoint-form (process u d) e = absurd (omega arith)
-endpoint-form (endpoint c b) e = refl
+endpoint-form o e = sym (ap formOf (is-endpoint o (number-tag o (omega arith) ∙ e)))
 
 pub table-form : (o : Object) (i : ℕ) (x : Place) → i < length (placesOf o) → formOf (table (set (placesOf o) i x)) ≡ formOf o
 table-form o i x h = ap Form.table (length-set (placesOf o) i x) ∙ sym (ap formOf (is-table o i h))

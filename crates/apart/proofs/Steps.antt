@@ -1,23 +1,21 @@
 -- One step: the tick, and any call by one whose table is in the invariant, keep the invariant and the stretch.
 use mathlib.Core.Bool.{Bool, false, true}
 use mathlib.Core.Logic.{inl, inr}
-use mathlib.Core.Path.{refl, _≡_}
+use mathlib.Core.Path.{refl, subst, _≡_}
 use Prim.Native.Nat.{ℕ}
 use lib.ListN.{getD}
-use Rattle.rules.specs.Calls.{callerTable, plan}
+use Rattle.passed.proofs.Walks.{passed}
+use Rattle.rules.specs.Calls.{plan}
 use Rattle.rules.specs.Commit.{after, ticked}
 use Rattle.rules.specs.Run.{Event, call, step, tick}
 use Rattle.rules.specs.WellFormed.{wf}
-use Rattle.state.specs.State.{Object, State, body, directory, endpoint, free, placesOf, process, table}
-use Rattle.words.specs.Fields.{callNumber}
+use Rattle.state.specs.State.{State, placesOf}
 use Rattle.words.specs.Tests.{choose}
 use Rattle.words.specs.Try.{Try, no!, ok! }
 use Rattle.apart.specs.Names.{Action, Blank, Holds, Place, Words}
-use Rattle.apart.proofs.Calls.{call-good}
-use Rattle.apart.proofs.Facts.{Facts, facts}
+use Rattle.apart.proofs.Actions.{action-good}
 use Rattle.apart.proofs.Good.{Good, Kept}
 use Rattle.apart.proofs.Invariant.{Clear, Inv, Own, Parts, SafeAt}
-use Rattle.apart.proofs.Judge.{Given, bind, given, refused}
 use Rattle.apart.proofs.Kept.{good-kept, idle-kept}
 use Rattle.apart.proofs.View.{inSlot}
 
@@ -32,23 +30,16 @@ Caller C tick = Unit {0}
 Caller C (call p w) = C p
 
 module _ (M : ℕ → ℕ → Type 0) (a b : ℕ) (M-clear : Clear M a b) (M-parts : Parts M) where
-  after-kept : (st : State) (C R : ℕ → Type 0) → Inv M a b st C R → (m : Try Action) → Given m (Good M a b st C R) → Kept M a b st (after st m) C
+  after-kept : (st : State) (C R : ℕ → Type 0) → Inv M a b st C R → (m : Try Action) → ((x : Action) → m ≡ ok! x → Good M a b st C R x)
+      → Kept M a b st (after st m) C
   after-kept st C R h (no! r) g = idle-kept M a b M-clear st C R h
-  after-kept st C R h (ok! x) g = good-kept M a b M-clear st C R x h (g .of x refl)
+  after-kept st C R h (ok! x) g = good-kept M a b M-clear st C R x h (g x refl)
 
-  caller-own : (R : ℕ → Type 0) (o : Object) → Own R o → Given (callerTable o) (λ t. R (t .0))
-  unfolding callerTable
-  caller-own R free h = refused
-  caller-own R (body f) h = refused
-  caller-own R (table ps) h = refused
-  caller-own R (directory g es) h = refused
-  caller-own R (process t d) h = given h
-  caller-own R (endpoint c m) h = refused
-
-  plan-good : (st : State) (C R : ℕ → Type 0) → Facts st → Inv M a b st C R → (p : ℕ) → C p → (w : Words) → Given (plan st p w) (Good M a b st C R)
-  unfolding plan
-  plan-good st C R f h p c w = bind (caller-own R (inSlot st p) (h .own p c)) λ t q.
-      call-good (record { st = st; facts = f; C = C; R = R; inv = h; t = t; own = q; parts = M-parts }) (callNumber w) w
+  plan-good : (st : State) (C R : ℕ → Type 0) → wf st ≡ true → Inv M a b st C R → (p : ℕ) → C p → (w : Words) (x : Action)
+      → plan st p w ≡ ok! x → Good M a b st C R x
+  plan-good st C R f h p c w x e =
+      let k = passed st p w x e in
+      action-good (record { st = st; formed = f; C = C; R = R; inv = h; t = k .table; own = subst (Own R) (k .named) (h .own p c); parts = M-parts }) w x (k .shown)
 
   -- the clock is no part of what is seen
   tick-kept : {st : State} {C : ℕ → Type 0} → Kept M a b st st C → Kept M a b st (ticked st) C
@@ -74,4 +65,4 @@ module _ (M : ℕ → ℕ → Type 0) (a b : ℕ) (M-clear : Clear M a b) (M-par
       choose-at (λ r. Kept M a b st r C) (wf st) (ticked st) st (λ e. tick-kept k) k
   step-kept st C R h (call p w) c =
       choose-at (λ r. Kept M a b st r C) (wf st) (after st (plan st p w)) st
-      (λ e. after-kept st C R h (plan st p w) (plan-good st C R (facts st e) h p c w)) (idle-kept M a b M-clear st C R h)
+      (λ e. after-kept st C R h (plan st p w) (plan-good st C R e h p c w)) (idle-kept M a b M-clear st C R h)

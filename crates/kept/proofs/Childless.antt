@@ -4,13 +4,13 @@ use mathlib.Core.Path.{ap, refl, sym, _∙_, _≡_}
 use Prim.Native.Nat.{_+_, _<_, ℕ}
 use native.Mathlib.Omega.{arith}
 use borrow.Author.Tests.{eq-eqb}
+use Rattle.rules.specs.Formed.{Formed}
+use Rattle.rules.specs.Places.{hasChildren, isChildOf}
+use Rattle.state.specs.State.{State, entriesIn, placeAt, placeNumber, placeNumbered, putPlace, spotNumbered}
+use Rattle.words.proofs.Tests.{any-none}
 use Rattle.words.specs.Fields.{slot}
 use Rattle.words.specs.Rights.{isUnder}
-use Rattle.words.proofs.Tests.{any-none}
-use Rattle.state.specs.State.{State, entriesIn, placeAt, placeNumber, placeNumbered, putPlace, spotNumbered}
-use Rattle.rules.specs.Formed.{Formed}
-use Rattle.rules.specs.Places.{hasChildren, isChildOf, spot}
-use Rattle.kept.specs.Names.{Blank, Capability, Holds, Origin, Place, Root, Slot, Under}
+use Rattle.kept.specs.Names.{Blank, Capability, Holds, Origin, Place, Root, Slot, Spot, Under}
 use Rattle.kept.proofs.Base.{base, laid-out}
 use Rattle.kept.proofs.Chain.{code, originCode}
 use Rattle.kept.proofs.Descent.{Fits, fits-gone}
@@ -32,16 +32,16 @@ child-in st t e n = go (placeAt st t e) refl
     go Blank q h = absurd (false≢true (sym (ap (isChildOf n) q) ∙ h))
     go (Holds c) q h = holds-in st t e c q
 
-module _ (st : State) (w : Formed st) (t : Slot) (e : ℕ) (he : e < entriesIn st t) (childless : hasChildren st (spot t e) ≡ false) where
-  no-child : (s : Slot) (i : ℕ) → isChildOf (placeNumber (spot t e)) (placeAt st s i) ≡ true → ⊥
+module _ (st : State) (w : Formed st) (p : Spot) (he : p .entry < entriesIn st (p .table)) (childless : hasChildren st p ≡ false) where
+  no-child : (s : Slot) (i : ℕ) → isChildOf (placeNumber p) (placeAt st s i) ≡ true → ⊥
   unfolding hasChildren
   no-child s i h =
-      let l = child-in st s i (placeNumber (spot t e)) h in
+      let l = child-in st s i (placeNumber p) h in
       let a = any-none 256 _ childless (s .0) (entries-in st (laid-out w) s i l) in
       absurd (false≢true (sym (any-none _ _ a i l) ∙ h))
 
-  pub childless-fits : (s i : ℕ) (c : Capability) → placeAt st (slot s) i ≡ Holds c → (p : ℕ) → c .origin ≡ Under p → Fits st c p → Fits (putPlace st (spot t e) Blank) c p
-  childless-fits s i c q p from f =
-      fits-gone st (putPlace st (spot t e) Blank) (placeNumber (spot t e)) (but-numbered st (base w) t e Blank he)
-      (λ y h. no-child (spotNumbered st y .table) (spotNumbered st y .entry) (under-code (placeNumber (spot t e)) (placeNumbered st y) h))
-      c p (λ z. no-child (slot s) i (rw (q, from) (eq-eqb p (placeNumber (spot t e)) z))) f
+  pub childless-fits : (s i : ℕ) (c : Capability) → placeAt st (slot s) i ≡ Holds c → (n : ℕ) → c .origin ≡ Under n → Fits st c n → Fits (putPlace st p Blank) c n
+  childless-fits s i c q n from f =
+      fits-gone st (putPlace st p Blank) (placeNumber p) (but-numbered st (base w) p Blank he)
+      (λ y h. no-child (spotNumbered st y .table) (spotNumbered st y .entry) (under-code (placeNumber p) (placeNumbered st y) h))
+      c n (λ z. no-child (slot s) i (rw (q, from) (eq-eqb n (placeNumber p) z))) f

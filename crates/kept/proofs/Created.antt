@@ -7,25 +7,22 @@ use native.Mathlib.Nat.{add-zero}
 use native.Mathlib.Omega.{arith}
 use lib.ListN.{getD, length}
 use borrow.Author.Tests.{eq-eqb}
-use Rattle.words.specs.Fields.{slot}
-use Rattle.words.specs.Rights.{rootRight}
-use Rattle.state.specs.State.{Object, State, entriesIn, objAt, placeAt, placeNumber, placesOf, putPlace, raise, sizeOf}
+use Rattle.rules.specs.Formed.{Formed}
+use Rattle.rules.specs.WellFormed.{isRootOf, objectNo, objectOk, one, rightOk, rootsOf}
 use Rattle.state.proofs.New.{Vacant}
 use Rattle.state.proofs.Write.{is-table}
-use Rattle.rules.specs.Formed.{Formed}
-use Rattle.rules.specs.Places.{spot}
-use Rattle.rules.specs.WellFormed.{isRootOf, objectNo, objectOk, one, rightOk, rootsOf}
-use Rattle.kept.specs.Names.{Blank, Capability, Holds, Kind, Place, Slot}
+use Rattle.state.specs.State.{Object, State, entriesIn, objAt, placeAt, placesOf, putPlace, raise, sizeOf}
+use Rattle.words.specs.Fields.{slot}
+use Rattle.words.specs.Rights.{rootRight}
+use Rattle.kept.specs.Names.{Blank, Holds, Kind, Place, Slot, Spot}
 use Rattle.kept.proofs.Base.{Base, base, laid-out}
-use Rattle.kept.proofs.Descent.{Fits, fits-fresh}
-use Rattle.kept.proofs.PutPlace.{but-numbered, place-base, place-like, right-keep, roots-more}
+use Rattle.kept.proofs.PutPlace.{fits-filled, place-base, place-like, right-keep, roots-more}
 use Rattle.kept.proofs.Raise.{raise-base, raise-fix, raise-roots, raised}
 use Rattle.kept.proofs.Roots.{Of, formed-of, no-roots, root-here, root-other, rooted-at, rooted-same, rootedNo}
-use Rattle.kept.proofs.Slots.{numbered}
 use Rattle.kept.proofs.Stand.{Bare, Stand, Zone, apart, first, later, vacant-first, zone}
 
 module _ (st : State) (w : Formed st) (s : Slot) (o : Object) (i : ℕ) (n : Bare o i) (r : Vacant st s (sizeOf o))
-    (t : Slot) (e : ℕ) (he : e < entriesIn st t) (empty : placeAt st t e ≡ Blank) (k : Kind) (of : Of k s i) where
+    (p : Spot) (he : p .entry < entriesIn st (p .table)) (empty : placeAt st (p .table) (p .entry) ≡ Blank) (k : Kind) (of : Of k s i) where
   abbrev st₁ : State
   st₁ = raise st s o
 
@@ -33,19 +30,19 @@ module _ (st : State) (w : Formed st) (s : Slot) (o : Object) (i : ℕ) (n : Bar
   x = Holds (rootRight k)
 
   abbrev st₂ : State
-  st₂ = putPlace st₁ (spot t e) x
+  st₂ = putPlace st₁ p x
 
   stand : Stand st st₁ s o
   stand = raised st (base w) s o i n r
 
-  table-stays : objAt st₁ t ≡ objAt st t
-  table-stays = raise-fix st (base w) s o i n r t (let z : objectNo (objAt st t) ≡ 1 = ap objectNo (is-table (objAt st t) e he) in omega arith)
+  table-stays : objAt st₁ (p .table) ≡ objAt st (p .table)
+  table-stays = raise-fix st (base w) s o i n r (p .table) (let z : objectNo (objAt st (p .table)) ≡ 1 = ap objectNo (is-table (objAt st (p .table)) (p .entry) he) in omega arith)
 
-  he₁ : e < entriesIn st₁ t
-  he₁ = subst (λ (y : Object). e < length (placesOf y)) (sym table-stays) he
+  he₁ : p .entry < entriesIn st₁ (p .table)
+  he₁ = subst (λ (y : Object). p .entry < length (placesOf y)) (sym table-stays) he
 
-  empty₁ : placeAt st₁ t e ≡ Blank
-  empty₁ = ap (λ (y : Object). getD (placesOf y) e Blank) table-stays ∙ empty
+  empty₁ : placeAt st₁ (p .table) (p .entry) ≡ Blank
+  empty₁ = ap (λ (y : Object). getD (placesOf y) (p .entry) Blank) table-stays ∙ empty
 
   module _ (good : objectOk st₁ s o ≡ true) (fine : rightOk st₁ (rootRight k) ≡ true) where
     base₁ : Base st₁
@@ -53,13 +50,12 @@ module _ (st : State) (w : Formed st) (s : Slot) (o : Object) (i : ℕ) (n : Bar
 
     base₂ : Base st₂
     base₂ =
-        let fits : (c : Capability) (p : ℕ) → Fits st₁ c p → Fits st₂ c p =
-        fits-fresh st₁ st₂ (placeNumber (spot t e)) (but-numbered st₁ base₁ t e x he₁) (numbered st₁ (base₁ .laid) t e he₁ ∙ empty₁) in
-        place-base st₁ base₁ t e x he₁ (right-keep st₁ base₁ t e x he₁ (rootRight k) (λ p _ f. fits (rootRight k) p f) fine) (λ a b c _ _ p _ f. fits c p f)
+        let fits = fits-filled st₁ base₁ p x he₁ empty₁ in
+        place-base st₁ base₁ p x he₁ (right-keep st₁ base₁ p x he₁ (rootRight k) (λ n _ f. fits (rootRight k) n f) fine) (λ a b c _ _ n _ f. fits c n f)
 
     -- ---- the roots: one more, of the new object
     roots₂ : (m : ℕ) (q : Slot) → rootsOf st₂ m q ≡ rootsOf st m q + one (isRootOf m q x)
-    roots₂ m q = roots-more st₁ base₁ t e x he₁ empty₁ m q ∙ ap (λ (z : ℕ). z + one (isRootOf m q x)) (raise-roots st (base w) s o i n r m q)
+    roots₂ m q = roots-more st₁ base₁ p x he₁ empty₁ m q ∙ ap (λ (z : ℕ). z + one (isRootOf m q x)) (raise-roots st (base w) s o i n r m q)
 
     same₂ : (m : ℕ) (q : Slot) → (suc i ≡ m → q .0 ≡ s .0 → ⊥) → rootsOf st₂ m q ≡ rootsOf st m q
     same₂ m q d = roots₂ m q ∙ ap (λ (b : Bool). rootsOf st m q + one b) (root-other (rootRight k) s i of m q d) ∙ add-zero (rootsOf st m q)
@@ -82,6 +78,6 @@ module _ (st : State) (w : Formed st) (s : Slot) (o : Object) (i : ℕ) (n : Bar
     pub created : Formed st₂
     created =
         formed-of st₂ base₂
-        (λ z hz. ap (rootedNo st₂ (slot z)) (place-like st₁ base₁ t e x he₁ z .number) ∙ rooted₂ z hz (zone (s .0) (sizeOf o) z))
+        (λ z hz. ap (rootedNo st₂ (slot z)) (place-like st₁ base₁ p x he₁ z .number) ∙ rooted₂ z hz (zone (s .0) (sizeOf o) z))
         (same₂ 3 (slot 0) (λ q _. of .no-memory q) ∙ w .memory)
         (same₂ 6 (slot 0) (λ q _. of .no-function q) ∙ w .function)

@@ -2,7 +2,7 @@
 -- user and hangs nowhere, and the root has no child.
 use mathlib.Core.Bool.{Bool, false, false≢true, true}
 use mathlib.Core.Logic.{inl, inr, _≢_, _⊎_}
-use mathlib.Core.Path.{refl, subst, sym, _∙_, _≡_, ap}
+use mathlib.Core.Path.{_∙_, _≡_, ap, refl, subst, sym}
 use Prim.Native.Nat.{_+_, _<_, suc, ℕ}
 use native.Mathlib.Decide.{ℕ-discrete}
 use native.Mathlib.Nat.{add-zero}
@@ -10,25 +10,24 @@ use native.Mathlib.Omega.{arith}
 use lib.Dec.{eqb}
 use lib.ListN.{getD, length}
 use borrow.Author.Tests.{eq-eqb, eqb-true}
-use Rattle.words.specs.Fields.{slot}
-use Rattle.words.specs.Rights.{isBlank, isRoot}
-use Rattle.words.proofs.Tests.{any-none, or-false}
-use Rattle.state.specs.State.{Object, State, free, objAt, placeAt, placesOf, positionAt, positionsIn, positionsOf, process, putPlace, raze}
-use Rattle.state.proofs.Run.{object-some}
-use Rattle.state.proofs.Write.{is-directory}
+use Rattle.passed.specs.Found.{Stands}
 use Rattle.rules.specs.Calls.{hangsSomewhere, isChildAt}
 use Rattle.rules.specs.Formed.{Formed}
-use Rattle.rules.specs.Places.{hasChildren, hasUsers, isUserOf, spot}
+use Rattle.rules.specs.Places.{hasChildren, hasUsers, isUserOf}
 use Rattle.rules.specs.WellFormed.{isRootOf, objectNo, one, rootsOf}
-use Rattle.rules.proofs.Facts.{right-open}
-use Rattle.kept.specs.Names.{Blank, Capability, Child, Empty, Holds, Place, Slot}
+use Rattle.state.proofs.Run.{object-some}
+use Rattle.state.proofs.Write.{is-directory}
+use Rattle.state.specs.State.{Object, State, free, objAt, placeAt, placesOf, positionAt, positionsIn, positionsOf, process, putPlace, raze}
+use Rattle.words.proofs.Tests.{any-none, or-false}
+use Rattle.words.specs.Fields.{slot}
+use Rattle.words.specs.Rights.{isBlank, isRoot}
+use Rattle.kept.specs.Names.{Blank, Capability, Child, Empty, Holds, Place, Slot, Spot}
 use Rattle.kept.proofs.Base.{Base, base, laid-out}
 use Rattle.kept.proofs.Childless.{childless-fits}
-use Rattle.kept.proofs.Found.{Stands, stands-ok}
 use Rattle.kept.proofs.Objects.{tag-of}
 use Rattle.kept.proofs.PutPlace.{place-apart, place-base, place-like, place-put, roots-less}
 use Rattle.kept.proofs.Raze.{raze-base, raze-left, raze-roots}
-use Rattle.kept.proofs.Roots.{Of, formed-of, named-of, root-here, root-other, rooted-at, rooted-same, rootedNo}
+use Rattle.kept.proofs.Roots.{Of, formed-of, root-here, root-other, rooted-at, rooted-same, rootedNo}
 use Rattle.kept.proofs.Slots.{in-slots}
 use Rattle.kept.proofs.Stand.{Bare}
 
@@ -43,34 +42,31 @@ pub unhung : (st : State) (o : Slot) → hangsSomewhere st o ≡ false → Unhun
 unfolding hangsSomewhere
 unhung st o h k j d f hk hj q = not-eqb _ _ (sym (ap (isChildAt o) q) ∙ any-none _ _ (any-none 256 _ h k hk) j hj)
 
-module _ (st : State) (w : Formed st) (t : Slot) (e : ℕ) (c : Capability) (o : Slot) (i : ℕ)
-    (stands : Stands st t e c) (orig : isRoot (c .origin) ≡ true) (childless : hasChildren st (spot t e) ≡ false) (userless : hasUsers st o ≡ false)
+module _ (st : State) (w : Formed st) (p : Spot) (c : Capability) (o : Slot) (i : ℕ)
+    (stands : Stands st p c) (number : objectNo (objAt st o) ≡ suc i) (orig : isRoot (c .origin) ≡ true) (childless : hasChildren st p ≡ false) (userless : hasUsers st o ≡ false)
     (of : Of (c .kind) o i) (blank : (a : ℕ) → placeAt st o a ≡ Blank) (hung : Unhung st o) where
   abbrev st₁ : State
-  st₁ = putPlace st (spot t e) Blank
+  st₁ = putPlace st p Blank
 
   abbrev st₂ : State
   st₂ = raze st₁ o
 
-  number : objectNo (objAt st o) ≡ suc i
-  number = named-of st (c .kind) o i of (right-open st c (stands-ok st w t e c stands) .stands)
-
   -- the object is another than the table that holds its root
-  apart-from : o .0 ≢ t .0
-  apart-from q = absurd (false≢true (sym (ap isBlank (stands .holds)) ∙ ap (λ (m : ℕ). isBlank (placeAt st (slot m) e)) (sym q) ∙ ap isBlank (blank e)))
+  apart-from : o .0 ≢ p .table .0
+  apart-from q = absurd (false≢true (sym (ap isBlank (stands .holds)) ∙ ap (λ (m : ℕ). isBlank (placeAt st (slot m) (p .entry))) (sym q) ∙ ap isBlank (blank (p .entry))))
 
   base₁ : Base st₁
-  base₁ = place-base st (base w) t e Blank (stands .below) refl (λ s j d q r p from f. childless-fits st w t e (stands .below) childless s j d q p from f)
+  base₁ = place-base st (base w) p Blank (stands .below) refl (λ s j d q r n from f. childless-fits st w p (stands .below) childless s j d q n from f)
 
   -- what is no table is as it was
   same₁ : (k : ℕ) → objectNo (objAt st₁ (slot k)) ≢ 1 → objAt st₁ (slot k) ≡ objAt st (slot k)
-  same₁ k d = elim (ℕ-discrete k (t .0)) [
-    | yes q ↦ absurd (d (ap (λ (m : ℕ). objectNo (objAt st₁ (slot m))) q ∙ ap objectNo (place-put st (base w) t e Blank (stands .below))))
-    | no m ↦ place-apart st (base w) t e Blank (stands .below) k m
+  same₁ k d = elim (ℕ-discrete k (p .table .0)) [
+    | yes q ↦ absurd (d (ap (λ (m : ℕ). objectNo (objAt st₁ (slot m))) q ∙ ap objectNo (place-put st (base w) p Blank (stands .below))))
+    | no m ↦ place-apart st (base w) p Blank (stands .below) k m
   ]
 
   o-same : objAt st₁ o ≡ objAt st o
-  o-same = place-apart st (base w) t e Blank (stands .below) (o .0) apart-from
+  o-same = place-apart st (base w) p Blank (stands .below) (o .0) apart-from
 
   bare : Bare (objAt st₁ o) i
   bare = record {
@@ -80,7 +76,7 @@ module _ (st : State) (w : Formed st) (t : Slot) (e : ℕ) (c : Capability) (o :
   }
 
   less : (n : ℕ) (q : Slot) → rootsOf st n q ≡ rootsOf st₁ n q + one (isRootOf n q (Holds c))
-  less n q = roots-less st (base w) t e Blank (stands .below) refl n q ∙ ap (λ (p : Place). rootsOf st₁ n q + one (isRootOf n q p)) (stands .holds)
+  less n q = roots-less st (base w) p Blank (stands .below) refl n q ∙ ap (λ (p : Place). rootsOf st₁ n q + one (isRootOf n q p)) (stands .holds)
 
   rootless : rootsOf st₁ (suc i) o ≡ 0
   rootless =
@@ -109,7 +105,7 @@ module _ (st : State) (w : Formed st) (t : Slot) (e : ℕ) (c : Capability) (o :
   rooted₂ : (z : ℕ) → z < 256 → (objAt st₂ (slot z) ≡ free) ⊎ ((objAt st₂ (slot z) ≡ objAt st₁ (slot z)) × (z ≢ o .0)) → rootedNo st₂ (slot z) (objectNo (objAt st₂ (slot z))) ≡ true
   rooted₂ z hz (inl q) = ap (λ (x : Object). rootedNo st₂ (slot z) (objectNo x)) q
   rooted₂ z hz (inr q) =
-      ap (rootedNo st₂ (slot z)) (ap objectNo (q .0) ∙ place-like st (base w) t e Blank (stands .below) z .number)
+      ap (rootedNo st₂ (slot z)) (ap objectNo (q .0) ∙ place-like st (base w) p Blank (stands .below) z .number)
       ∙ rooted-same st st₂ (slot z) (objectNo (objAt st (slot z))) (λ n. same₂ n (slot z) (λ _ y. q .1 y)) ∙ rooted-at st w z hz
 
   pub deleted : Formed st₂

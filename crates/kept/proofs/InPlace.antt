@@ -1,25 +1,24 @@
--- The calls that write into one object, or nothing: 14 change table, 15 change directory, 18 send, 19 receive, 20 function.
+-- What is written into one object: the table and the directory that a process names, an endpoint's count.
 use mathlib.Core.Bool.{true}
-use mathlib.Core.Path.{ap, refl, subst, sym, _∙_, _≡_}
-use Prim.Native.Nat.{_+_, _-_, _<_, _^_, min, suc, ℕ}
+use mathlib.Core.Logic.{inl, inr, _⊎_}
+use mathlib.Core.Path.{ap, refl, sym, _∙_, _≡_}
+use Prim.Native.Nat.{_+_, _-_, _<_, _^_, suc, ℕ, _≤_}
 use native.Mathlib.Omega.{arith}
 use borrow.Author.Tests.{eq-eqb, lt-ltb, ltb-true}
-use Rattle.words.specs.Fields.{count}
-use Rattle.words.proofs.Judged.{bind-ok, need-ok}
-use Rattle.words.proofs.Tests.{and-both, and-left, and-right}
-use Rattle.state.specs.State.{Object, State, bootMark, countOf, directoryNamed, endpoint, objAt, placesOf, process, put, shapeAt, tableNamed}
-use Rattle.state.proofs.Write.{is-endpoint, is-process}
-use Rattle.rules.specs.Calls.{changeDirectory, changeTable, function, most, receive, send}
+use Rattle.passed.proofs.Stand.{stands-found}
+use Rattle.passed.specs.Passed.{Counted, DirectoryChanged, TableChanged}
+use Rattle.rules.specs.Commit.{commit}
 use Rattle.rules.specs.Formed.{Formed}
 use Rattle.rules.specs.WellFormed.{objectNo, objectOk, runs, still}
+use Rattle.state.proofs.Write.{is-endpoint, is-process}
+use Rattle.state.specs.State.{State, bootMark, countOf, directoryNamed, endpoint, objAt, process, put, tableNamed}
+use Rattle.words.proofs.Tests.{and-both, and-left, and-right}
+use Rattle.words.specs.Fields.{count}
 use Rattle.kept.specs.Names.{ChangeDirectory, ChangeTable, Count, SetCount, Slot}
 use Rattle.kept.proofs.Base.{laid-out}
-use Rattle.kept.proofs.Found.{endpoint-arg, endpoint-found, process-arg, table-arg, top-arg}
-use Rattle.kept.proofs.Keeps.{Keeps, Kept, kept}
 use Rattle.kept.proofs.Objects.{tagged}
 use Rattle.kept.proofs.Put.{put-formed}
 use Rattle.kept.proofs.Slots.{in-slots}
-use Rattle.kept.proofs.Stay.{Like}
 
 module _ (st : State) (w : Formed (still st)) where
   object-ok : (o : Slot) (i : ℕ) → objectNo (objAt st o) ≡ suc i → objectOk (still st) o (objAt st o) ≡ true
@@ -32,22 +31,23 @@ module _ (st : State) (w : Formed (still st)) where
   process-put : (p t d : Slot) → objectNo (objAt st p) ≡ 4 → runs (still st) t d ≡ true → Formed (still (put st p (process t d)))
   unfolding objectOk
   process-put p t d h r =
-      let q = process-is p h in
-      put-formed (still st) w p 3 h (process t d)
-      (subst (λ (x : Object). Like (process t d) x) (sym q) (record { number = refl; entries = refl; positions = refl; shape = refl; first = λ k. refl; size = refl }))
-      (sym (ap placesOf q)) r
+      put-formed (still st) w p _ (process-is p h) 3 refl (process t d) (record { number = refl; entries = refl; positions = refl; shape = refl; first = λ k. refl; size = refl }) refl r
 
   ran : (p : Slot) → objectNo (objAt st p) ≡ 4 → runs (still st) (tableNamed (objAt st p)) (directoryNamed (objAt st p)) ≡ true
   unfolding objectOk
   ran p h = sym (ap (objectOk (still st) p) (process-is p h)) ∙ object-ok p 3 h
 
-  set-table : (p t : Slot) → objectNo (objAt st p) ≡ 4 → objectNo (objAt st t) ≡ 1 → Kept st (ChangeTable p t)
+  pub table-changed : {t p o : Slot} → TableChanged st t p o → Formed (still (commit st (ChangeTable p o)))
   unfolding runs
-  set-table p t h k = process-put p t (directoryNamed (objAt st p)) h (and-both _ _ (eq-eqb _ _ k) (and-right _ _ (ran p h)))
+  table-changed {p = p} {o = o} h =
+      let k = stands-found st w (h .process) in
+      process-put p o (directoryNamed (objAt st p)) k (and-both _ _ (eq-eqb _ _ (stands-found st w (h .table))) (and-right _ _ (ran p k)))
 
-  set-directory : (p d : Slot) → objectNo (objAt st p) ≡ 4 → shapeAt st d .top ≡ true → Kept st (ChangeDirectory p d)
+  pub directory-changed : {t p d : Slot} → DirectoryChanged st t p d → Formed (still (commit st (ChangeDirectory p d)))
   unfolding runs
-  set-directory p d h k = process-put p (tableNamed (objAt st p)) d h (and-both _ _ (and-left _ _ (ran p h)) k)
+  directory-changed {p = p} {d = d} h =
+      let k = stands-found st w (h .process) in
+      process-put p (tableNamed (objAt st p)) d k (and-both _ _ (and-left _ _ (ran p k)) (h .directory .top))
 
   -- ---- an endpoint's count
   endpoint-is : (e : Slot) → objectNo (objAt st e) ≡ 5 → objAt st e ≡ endpoint (count (countOf (objAt st e))) (bootMark (objAt st e))
@@ -57,55 +57,12 @@ module _ (st : State) (w : Formed (still st)) where
   unfolding objectOk
   counted e h = ltb-true _ _ (sym (ap (objectOk (still st) e) (endpoint-is e h)) ∙ object-ok e 4 h)
 
-  set-count : (e : Slot) (c n : Count) → objectNo (objAt st e) ≡ 5 → c .0 < 2 ^ 32 → Kept st (SetCount e c n)
+  pub count-set : {t e : Slot} {c n : Count} → Counted st t e c n → Formed (still (commit st (SetCount e c n)))
   unfolding objectOk
-  set-count e c n h l =
-      let q = endpoint-is e h in
-      let o : Object = endpoint c (bootMark (objAt st e)) in
-      put-formed (still st) w e 4 h o
-      (subst (λ (x : Object). Like o x) (sym q) (record { number = refl; entries = refl; positions = refl; shape = refl; first = λ k. refl; size = refl }))
-      (sym (ap placesOf q)) (lt-ltb _ _ l)
-
--- ---- the calls
-pub change-table-kept : Keeps changeTable
-unfolding changeTable
-change-table-kept st w t v word a h =
-    let p = bind-ok _ _ a h in
-    let o = bind-ok _ _ a (p .rest) in
-    kept st _ a (o .rest) (set-table st (w .shape) (p .found) (o .found) (process-arg st (w .shape) t _ _ _ (p .first)) (table-arg st (w .shape) t _ _ _ (o .first)))
-
-pub change-directory-kept : Keeps changeDirectory
-unfolding changeDirectory
-change-directory-kept st w t v word a h =
-    let p = bind-ok _ _ a h in
-    let d = bind-ok _ _ a (p .rest) in
-    kept st _ a (d .rest) (set-directory st (w .shape) (p .found) (d .found) (process-arg st (w .shape) t _ _ _ (p .first)) (top-arg st (w .shape) t _ _ _ (d .first)))
-
-pub send-kept : Keeps send
-unfolding send
-send-kept st w t v word a h =
-    let e = bind-ok _ _ a h in
-    let n = need-ok _ _ _ a (e .rest) in
-    let l : countOf (objAt st (e .found)) < 2 ^ 32 - 1 = ltb-true _ _ (n .test) in
-    kept st _ a (n .rest) (set-count st (w .shape) (e .found) (count (countOf (objAt st (e .found)) + 1)) (count 0) (endpoint-arg st (w .shape) t _ _ _ (e .first)) (omega arith))
-
-pub receive-kept : Keeps receive
-unfolding receive
-receive-kept st w t v word a h =
-    let c = bind-ok _ _ a h in
-    let e = bind-ok _ _ a (c .rest) in
-    let n₁ = need-ok _ _ _ a (e .rest) in
-    let n₂ = need-ok _ _ _ a (n₁ .rest) in
-    let is = endpoint-found st (w .shape) t _ (c .found) (e .found) (c .first) (e .first) in
-    let l = counted st (w .shape) (e .found) is in
-    let m : ℕ = min (countOf (objAt st (e .found))) (most (v .p2)) in
-    kept st _ a (n₂ .rest) (set-count st (w .shape) (e .found) (count (countOf (objAt st (e .found)) - m)) (count m) is (omega arith))
-
-pub function-kept : Keeps function
-unfolding function
-function-kept st w t v word a h =
-    let c = bind-ok _ _ a h in
-    let f = bind-ok _ _ a (c .rest) in
-    let n₁ = need-ok _ _ _ a (f .rest) in
-    let n₂ = need-ok _ _ _ a (n₁ .rest) in
-    kept st _ a (n₂ .rest) (w .shape)
+  count-set {e = e} {c = c} h =
+      put-formed (still st) w e _ (endpoint-is e (stands-found st w (h .by))) 4 refl (endpoint c (bootMark (objAt st e)))
+      (record { number = refl; entries = refl; positions = refl; shape = refl; first = λ k. refl; size = refl }) refl (lt-ltb _ _ (word (h .counts)))
+    where
+      word : ((c .0 ≡ countOf (objAt st e) + 1) × (countOf (objAt st e) < 2 ^ 32 - 1)) ⊎ (c .0 ≤ countOf (objAt st e)) → c .0 < 2 ^ 32
+      word (inl m) = omega (arith, m .0, m .1)
+      word (inr l) = omega (arith, counted e (stands-found st w (h .by)))

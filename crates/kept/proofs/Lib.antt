@@ -13,12 +13,12 @@ pub mod Raise
 pub mod Unnamed
 pub mod Raze
 pub mod Created
-pub mod Found
 pub mod Childless
 pub mod Deleted
-pub mod Keeps
 pub mod InPlace
+pub mod Frames
 pub mod Positions
+pub mod Grants
 pub mod Places
 pub mod Creations
 pub mod Deletions

@@ -6,10 +6,10 @@ use Prim.Native.Nat.{_+_, suc, ℕ, _≤_}
 use native.Mathlib.Decide.{decLt}
 use native.Mathlib.Omega.{arith}
 use lib.ListN.{getD}
-use Rattle.words.specs.Fields.{slot}
-use Rattle.state.specs.Bytes.{tagOf}
-use Rattle.state.specs.State.{Object, body, directory, endpoint, firstOf, free, isFree, placesOf, process, shapeOf, table}
 use Rattle.rules.specs.WellFormed.{objectNo}
+use Rattle.state.specs.Bytes.{tagOf}
+use Rattle.state.specs.State.{Object, body, directory, endpoint, firstOf, free, placesOf, process, shapeOf, table}
+use Rattle.words.specs.Fields.{slot}
 use Rattle.kept.specs.Names.{Blank}
 
 -- a table's tag is 2 and a directory's 3; a process and an endpoint have their number as tag
@@ -27,14 +27,6 @@ tagged (endpoint c b) i h = record { low = λ z. omega arith; high = λ z. refl 
 
 pub tag-of : (o : Object) (i : ℕ) → objectNo o ≡ suc i → 2 ≤ tagOf o
 tag-of o i h = elim (decLt (objectNo o) 3) [ yes l ↦ omega (arith, tagged o i h .low (omega arith)) | no n ↦ omega (arith, tagged o i h .high (omega arith)) ]
-
-pub is-free : (o : Object) → isFree o ≡ true → o ≡ free
-is-free free h = refl
-is-free (body f) h = absurd (false≢true h)
-is-free (table ps) h = absurd (false≢true h)
-is-free (directory g es) h = absurd (false≢true h)
-is-free (process t d) h = absurd (false≢true h)
-is-free (endpoint c b) h = absurd (false≢true h)
 
 -- only a directory is top
 pub with-top : (o : Object) → shapeOf o .top ≡ true → objectNo o ≡ 2

@@ -1,66 +1,34 @@
--- The calls that write a position of a directory: 8 map page, 9 remove page, 10 construct, 11 destruct.
-use mathlib.Core.Bool.{true}
+-- A position of a directory, written: empty, the page that a part of another page is, or a child directory.
+use mathlib.Core.Bool.{not, true}
 use mathlib.Core.List.{List}
 use mathlib.Core.Path.{ap, refl, subst, sym, _∙_, _≡_}
-use Prim.Native.Nat.{_%_, _*_, _+_, _-_, _/_, _<_, _^_, ℕ, _≤_}
+use Prim.Native.Nat.{_%_, _*_, _+_, _-_, _<_, _^_, ℕ, _≤_}
 use native.Mathlib.Decide.{ℕ-discrete}
-use native.Mathlib.Nat.{add-mul, add-zero, le-trans, mul-assoc}
+use native.Mathlib.Nat.{le-trans}
 use native.Mathlib.Omega.{arith}
-use lib.Arith.{digits-lt}
 use lib.Dec.{ltb}
 use lib.ListN.{getD, length, length-set, set}
-use lib.Pow.{low, pow-add, pow-pos, shl-lt, shr-lt, split}
 use lib.Seq.{getD-set-other, getD-set-same}
 use borrow.Author.Tests.{eq-eqb, eqb-true, le-leb, leb-true, lt-ltb, ltb-true}
-use Rattle.words.specs.Fields.{D0, D1}
-use Rattle.words.specs.Sizes.{slotsFor}
-use Rattle.words.specs.Try.{ok! }
-use Rattle.words.proofs.Flags.{subset-le}
-use Rattle.words.proofs.Judged.{bind-ok, need-ok, not-no, ok-eq, seq-ok}
-use Rattle.words.proofs.Tests.{all-at, all-of, and-both, and-left, and-right}
-use Rattle.state.specs.State.{Object, State, directory, objAt, placesOf, positionAt, positionsIn, positionsOf, shapeAt}
-use Rattle.state.proofs.Write.{is-directory}
-use Rattle.rules.specs.Calls.{asPage, construct, destruct, mapPage, removePage, sizeAt}
+use Rattle.passed.proofs.Stand.{stands-found}
+use Rattle.passed.specs.Passed.{Becomes, PositionSet}
+use Rattle.rules.specs.Commit.{commit}
 use Rattle.rules.specs.Formed.{Formed}
 use Rattle.rules.specs.WellFormed.{framed, geometric, hangs, objectNo, objectOk, positionOk, still}
-use Rattle.kept.specs.Names.{Child, Empty, Frame, Geometry, Page, Position, Refusal, SetPosition, Slot}
+use Rattle.state.proofs.Write.{is-directory}
+use Rattle.state.specs.State.{State, directory, objAt, positionAt, positionsIn, positionsOf, shapeAt}
+use Rattle.words.proofs.Flags.{subset-le}
+use Rattle.words.proofs.Tests.{all-at, all-of, and-both, and-left, and-right}
+use Rattle.words.specs.Sizes.{slotsFor}
+use Rattle.kept.specs.Names.{Child, Empty, Page, Position, SetPosition, Slot}
 use Rattle.kept.proofs.Base.{laid-out}
-use Rattle.kept.proofs.Found.{directory-arg}
-use Rattle.kept.proofs.Keeps.{Keeps, Kept, kept}
+use Rattle.kept.proofs.Frames.{frame-multiple, frame-small}
 use Rattle.kept.proofs.Put.{put-formed}
 use Rattle.kept.proofs.Slots.{in-slots}
-use Rattle.kept.proofs.Stay.{Like}
-
--- ---- frames: the i-th page of order k in a page of order j + k whose frame is f
-module _ (f i k j : ℕ) (whole : f % 2 ^ (j + k) ≡ 0) (hi : i < 2 ^ j) where
-  f-is : f ≡ f / 2 ^ (j + k) * 2 ^ (j + k)
-  f-is = let z = split f (j + k) in omega arith
-
-  -- "a page's frame is a multiple of its size"
-  frame-multiple : (f + i * 2 ^ k) % 2 ^ k ≡ 0
-  frame-multiple =
-      let q : ℕ = f / 2 ^ (j + k) in
-      let a : f ≡ q * 2 ^ j * 2 ^ k = f-is ∙ ap (λ (x : ℕ). q * x) (pow-add 2 j k) ∙ sym (mul-assoc q (2 ^ j) (2 ^ k)) in
-      let b : f + i * 2 ^ k ≡ (q * 2 ^ j + i) * 2 ^ k + 0 = ap (λ (x : ℕ). x + i * 2 ^ k) a ∙ sym (add-mul (q * 2 ^ j) i (2 ^ k)) ∙ sym (add-zero ((q * 2 ^ j + i) * 2 ^ k)) in
-      ap (λ (x : ℕ). x % 2 ^ k) b ∙ low (q * 2 ^ j + i) k (pow-pos k)
-
-  -- and it is a word where the larger page's is
-  frame-small : f < 2 ^ 32 → j + k ≤ 32 → f + i * 2 ^ k < 2 ^ 32
-  frame-small l n =
-      let e : 32 - (j + k) + (j + k) ≡ 32 = omega arith in
-      let q : f / 2 ^ (j + k) < 2 ^ (32 - (j + k)) = shr-lt (32 - (j + k)) (j + k) (rw e l) in
-      let d : f / 2 ^ (j + k) * 2 ^ (j + k) + i * 2 ^ k < 2 ^ (32 - (j + k)) * 2 ^ (j + k) = digits-lt q (shl-lt j k hi) in
-      subst (λ (x : ℕ). f + i * 2 ^ k < 2 ^ x) e (rw (pow-add 2 (32 - (j + k)) (j + k)) (subst (λ (x : ℕ). x + i * 2 ^ k < 2 ^ (32 - (j + k)) * 2 ^ (j + k)) (sym f-is) d))
-
-is-page : (p : Position) (x : Frame) (r : Refusal) → asPage r p ≡ ok! x → p ≡ Page (x .frame) (x .flags)
-is-page Empty x r h = not-no _ _ x h
-is-page (Page a b) x r h = ap (λ (y : Frame). Page (y .frame) (y .flags)) (ok-eq (record { frame = a; flags = b }) x h)
-is-page (Child o b) x r h = not-no _ _ x h
 
 module _ (st : State) (w : Formed (still st)) where
   -- ---- a directory that has a position
   pub record Shaped (d : Slot) : Type 0 where
-    pub number : objectNo (objAt st d) ≡ 2
     pub geometry : geometric (shapeAt st d) ≡ true
     pub start : ltb (shapeAt st d .start) (2 ^ 32) ≡ true
     pub count : length (positionsOf (objAt st d)) ≡ 2 ^ (shapeAt st d .number)
@@ -74,18 +42,15 @@ module _ (st : State) (w : Formed (still st)) where
       let k : objectOk (still st) d (directory (shapeAt st d) (positionsOf (objAt st d))) ≡ true = sym (ap (objectOk (still st) d) is) ∙ w .objects (d .0) (in-slots (still st) (laid-out w) d 1 number) in
       let k₁ = and-right _ _ k in
       let k₂ = and-right _ _ k₁ in
-      record { number = number; geometry = and-left _ _ k; start = and-left _ _ k₁; count = eqb-true _ _ (and-left _ _ k₂); each = all-at _ _ (and-right _ _ k₂) }
+      record { geometry = and-left _ _ k; start = and-left _ _ k₁; count = eqb-true _ _ (and-left _ _ k₂); each = all-at _ _ (and-right _ _ k₂) }
 
-  set-position : (d : Slot) (i : ℕ) (x : Position) → i < positionsIn st d → positionOk (still st) (shapeAt st d) x ≡ true → Kept st (SetPosition d i x)
+  set-position : (d : Slot) (i : ℕ) (x : Position) → i < positionsIn st d → positionOk (still st) (shapeAt st d) x ≡ true → Formed (still (commit st (SetPosition d i x)))
   unfolding objectOk
   set-position d i x hi ok =
-      let is = is-directory (objAt st d) i hi in
       let o = shaped d i hi in
       let es = positionsOf (objAt st d) in
-      let new : Object = directory (shapeAt st d) (set es i x) in
-      put-formed (still st) w d 1 (o .number) new
-      (subst (λ (y : Object). Like new y) (sym is) (record { number = refl; entries = refl; positions = length-set es i x; shape = refl; first = λ k. refl; size = ap (λ (n : ℕ). slotsFor (32 + 8 * n)) (length-set es i x) }))
-      (sym (ap placesOf is))
+      put-formed (still st) w d _ (is-directory (objAt st d) i hi) 1 refl (directory (shapeAt st d) (set es i x))
+      (record { number = refl; entries = refl; positions = length-set es i x; shape = refl; first = λ k. refl; size = ap (λ (n : ℕ). slotsFor (32 + 8 * n)) (length-set es i x) }) refl
       (and-both _ _ (o .geometry) (and-both _ _ (o .start) (and-both _ _ (eq-eqb _ _ (length-set es i x ∙ o .count))
       (all-of _ _ (λ k hk. each es k (subst (λ (n : ℕ). k < n) (length-set es i x) hk) (o .each) (ℕ-discrete k i))))))
     where
@@ -94,76 +59,43 @@ module _ (st : State) (w : Formed (still st)) where
       each es k hk f (yes e) = ap (λ (n : ℕ). positionOk (still st) (shapeAt st d) (getD (set es i x) n Empty)) e ∙ ap (positionOk (still st) (shapeAt st d)) (getD-set-same es i x Empty (rw e at hk)) ∙ ok
       each es k hk f (no n) = ap (positionOk (still st) (shapeAt st d)) (getD-set-other es i k x Empty n) ∙ f k hk
 
-  set-empty : (d : Slot) (i : ℕ) → i < positionsIn st d → Kept st (SetPosition d i Empty)
-  unfolding positionOk
-  set-empty d i hi = set-position d i Empty hi refl
-
-  -- ---- the page of order k that the i-th part of a source page is
-  record Mapped (f : ℕ) (g : Geometry) : Type 0 where
-    multiple : f % 2 ^ (g .size) ≡ 0
+  -- ---- what a position becomes
+  -- the page that it is a part of
+  record Whole (s : Slot) (f x : ℕ) : Type 0 where
+    multiple : f % 2 ^ (shapeAt st s .size) ≡ 0
     word : f < 2 ^ 32
+    small : shapeAt st s .size ≤ 31
+    few : x ≤ 63
 
-  mapped : (d s : Slot) (k i : ℕ) (x : Frame) → k < positionsIn st s → positionAt st s k ≡ Page (x .frame) (x .flags) → shapeAt st d .size ≤ shapeAt st s .size → i < 2 ^ (shapeAt st s .size - shapeAt st d .size)
-      → Mapped (x .frame + i * 2 ^ (shapeAt st d .size)) (shapeAt st d) × (x .flags ≤ 63)
+  whole-page : (s : Slot) (k f x : ℕ) → k < positionsIn st s → positionAt st s k ≡ Page f x → Whole s f x
   unfolding positionOk framed geometric
-  mapped d s k i x hk q le hi =
+  whole-page s k f x hk q =
       let sh = shaped s k hk in
-      let g : positionOk (still st) (shapeAt st s) (Page (x .frame) (x .flags)) ≡ true = sym (ap (positionOk (still st) (shapeAt st s)) q) ∙ sh .each k hk in
+      let g : positionOk (still st) (shapeAt st s) (Page f x) ≡ true = sym (ap (positionOk (still st) (shapeAt st s)) q) ∙ sh .each k hk in
+      record {
+        multiple = eqb-true _ _ (and-left _ _ g);
+        word = ltb-true _ _ (and-left _ _ (and-right _ _ g));
+        small = leb-true _ _ (and-left _ _ (and-right _ _ (sh .geometry)));
+        few = leb-true _ _ (and-right _ _ (and-right _ _ g));
+      }
+
+  becomes-ok : (t d : Slot) (x : Position) → Becomes st t d x → positionOk (still st) (shapeAt st d) x ≡ true
+  unfolding positionOk framed hangs
+  becomes-ok t d Empty h = refl
+  becomes-ok t d (Page f x) h =
       let m : ℕ = shapeAt st d .size in
-      let j : ℕ = shapeAt st s .size - m in
-      let e : j + m ≡ shapeAt st s .size = omega arith in
-      let most31 : shapeAt st s .size ≤ 31 = leb-true _ _ (and-left _ _ (and-right _ _ (sh .geometry))) in
-      let fr : x .frame % 2 ^ (j + m) ≡ 0 = ap (λ (n : ℕ). x .frame % 2 ^ n) e ∙ eqb-true _ _ (and-left _ _ g) in
-      let fl : x .frame < 2 ^ 32 = ltb-true _ _ (and-left _ _ (and-right _ _ g)) in
-      (record { multiple = frame-multiple (x .frame) i m j fr hi; word = frame-small (x .frame) i m j fr hi fl (omega arith) }, leb-true _ _ (and-right _ _ (and-right _ _ g)))
+      let j : ℕ = shapeAt st (h .span .object) .size - m in
+      let e : j + m ≡ shapeAt st (h .span .object) .size = omega (arith, h .finer) in
+      let g = whole-page (h .span .object) (h .position) (h .page .frame) (h .page .flags) (h .below) (h .holds) in
+      let whole : h .page .frame % 2 ^ (j + m) ≡ 0 = ap (λ (n : ℕ). h .page .frame % 2 ^ n) e ∙ g .multiple in
+      rw (h .is)
+      (and-both _ _ (eq-eqb _ _ (frame-multiple (h .page .frame) (h .index) m j whole (h .indexed)))
+      (and-both _ _ (lt-ltb _ _ (frame-small (h .page .frame) (h .index) m j whole (h .indexed) (g .word) (omega (arith, g .small))))
+      (le-leb _ _ (le-trans (subset-le x (h .page .flags) (h .fewer)) (g .few)))))
+  becomes-ok t d (Child o x) h =
+      let two : objectNo (objAt st o) ≡ 2 = subst (λ (s : Slot). objectNo (objAt st s) ≡ 2) (h .is) (stands-found st w (h .by)) in
+      let few : x ≤ 63 = omega (arith, h .few) in
+      and-both _ _ (and-both _ _ (eq-eqb _ _ two) (and-both _ _ (eq-eqb _ _ (h .orders)) (ap not (h .below-top)))) (le-leb _ _ few)
 
--- ---- the calls
-pub map-page-kept : Keeps mapPage
-unfolding mapPage positionOk framed
-map-page-kept st w t v word a h =
-    let d = bind-ok _ _ a h in
-    let s = bind-ok _ _ a (d .rest) in
-    let n₁ = need-ok _ _ _ a (s .rest) in
-    let n₂ = need-ok _ _ _ a (n₁ .rest) in
-    let n₃ = need-ok _ _ _ a (n₂ .rest) in
-    let n₄ = need-ok _ _ _ a (n₃ .rest) in
-    let n₅ = need-ok _ _ _ a (n₄ .rest) in
-    let f = bind-ok _ _ a (n₅ .rest) in
-    let n₆ = need-ok _ _ _ a (f .rest) in
-    let n₇ = need-ok _ _ _ a (n₆ .rest) in
-    let m = mapped st (w .shape) (d .found .object) (s .found .object) (D0 (v .p2)) (D0 (v .p3)) (f .found)
-    (ltb-true _ _ (and-right _ _ (n₂ .test))) (is-page _ (f .found) _ (f .first)) (leb-true _ _ (n₁ .test)) (ltb-true _ _ (n₃ .test)) in
-    kept st _ a (n₇ .rest) (set-position st (w .shape) (d .found .object) (D0 (v .p1)) (Page (f .found .frame + D0 (v .p3) * 2 ^ sizeAt st (d .found)) (D1 (v .p3))) (ltb-true _ _ (and-left _ _ (n₂ .test)))
-    (and-both _ _ (eq-eqb _ _ (m .0 .multiple)) (and-both _ _ (lt-ltb _ _ (m .0 .word)) (le-leb _ _ (le-trans (subset-le (D1 (v .p3)) (f .found .flags) (n₇ .test)) (m .1))))))
-
-pub remove-page-kept : Keeps removePage
-unfolding removePage
-remove-page-kept st w t v word a h =
-    let d = bind-ok _ _ a h in
-    let n₁ = need-ok _ _ _ a (d .rest) in
-    let n₂ = need-ok _ _ _ a (n₁ .rest) in
-    let f = seq-ok _ _ a (n₂ .rest) in
-    kept st _ a (f .rest) (set-empty st (w .shape) (d .found .object) (v .p2) (ltb-true _ _ (n₁ .test)))
-
-pub construct-kept : Keeps construct
-unfolding construct positionOk hangs
-construct-kept st w t v word a h =
-    let p = bind-ok _ _ a h in
-    let c = bind-ok _ _ a (p .rest) in
-    let n₁ = need-ok _ _ _ a (c .rest) in
-    let n₂ = need-ok _ _ _ a (n₁ .rest) in
-    let n₃ = need-ok _ _ _ a (n₂ .rest) in
-    let n₄ = need-ok _ _ _ a (n₃ .rest) in
-    let n₅ = need-ok _ _ _ a (n₄ .rest) in
-    let few : v .p3 % 64 ≤ 63 = omega arith in
-    kept st _ a (n₅ .rest) (set-position st (w .shape) (p .found .object) (v .p2) (Child (c .found .object) (v .p3 % 64)) (ltb-true _ _ (n₁ .test))
-    (and-both _ _ (and-both _ _ (eq-eqb _ _ (directory-arg st (w .shape) t _ _ _ (c .first))) (and-both _ _ (n₂ .test) (n₅ .test))) (le-leb _ _ few)))
-
-pub destruct-kept : Keeps destruct
-unfolding destruct
-destruct-kept st w t v word a h =
-    let d = bind-ok _ _ a h in
-    let n₁ = need-ok _ _ _ a (d .rest) in
-    let n₂ = need-ok _ _ _ a (n₁ .rest) in
-    let n₃ = need-ok _ _ _ a (n₂ .rest) in
-    kept st _ a (n₃ .rest) (set-empty st (w .shape) (d .found .object) (v .p2) (ltb-true _ _ (n₁ .test)))
+  pub position-set : {t d : Slot} {i : ℕ} {x : Position} → PositionSet st t d i x → Formed (still (commit st (SetPosition d i x)))
+  position-set {t = t} {d = d} {i = i} {x = x} h = set-position d i x (h .below) (becomes-ok t d x (h .becomes))

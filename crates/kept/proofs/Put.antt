@@ -3,20 +3,20 @@
 use mathlib.Core.Bool.{true}
 use mathlib.Core.List.{List}
 use mathlib.Core.Logic.{_≢_}
-use mathlib.Core.Path.{refl, subst, sym, _∙_, _≡_, ap}
+use mathlib.Core.Path.{_∙_, _≡_, ap, refl, subst, sym}
 use Prim.Native.Nat.{_<_, suc, ℕ}
 use native.Mathlib.Decide.{ℕ-discrete}
 use native.Mathlib.Omega.{arith}
 use lib.ListN.{getD, length}
 use lib.Seq.{getD-set-other, getD-set-same}
-use Rattle.words.specs.Fields.{slot}
-use Rattle.words.specs.Tests.{sumBelow}
-use Rattle.words.proofs.Tests.{sum-same}
-use Rattle.state.specs.Layout.{Laid}
-use Rattle.state.specs.State.{Object, State, free, objAt, placeAt, placeNumbered, placesOf, put, spotNumbered}
-use Rattle.state.proofs.LaidAfter.{laid-put}
 use Rattle.rules.specs.Formed.{Formed}
 use Rattle.rules.specs.WellFormed.{isRootOf, objectNo, objectOk, one, right, rightOk, rootsOf}
+use Rattle.state.proofs.LaidAfter.{laid-put}
+use Rattle.state.specs.Layout.{Laid}
+use Rattle.state.specs.State.{Object, State, free, objAt, placeAt, placeNumbered, placesOf, put, spotNumbered}
+use Rattle.words.proofs.Tests.{sum-same}
+use Rattle.words.specs.Fields.{slot}
+use Rattle.words.specs.Tests.{sumBelow}
 use Rattle.kept.specs.Names.{Blank, Holds, Place, Slot, Spot}
 use Rattle.kept.proofs.Base.{laid-out}
 use Rattle.kept.proofs.Descent.{fits-same}
@@ -38,12 +38,16 @@ module _ (st : State) (w : Laid st) (d : Slot) (o : Object) (hd : d .0 < 256) (l
     | no n ↦ like-eq _ _ (put-there k n)
   ]
 
-module _ (st : State) (w : Formed st) (d : Slot) (i : ℕ) (number : objectNo (objAt st d) ≡ suc i) (o : Object) (l : Like o (objAt st d)) (ps : placesOf o ≡ placesOf (objAt st d)) where
+-- x stands at d, and o replaces it
+module _ (st : State) (w : Formed st) (d : Slot) (x : Object) (is : objAt st d ≡ x) (i : ℕ) (number : objectNo x ≡ suc i) (o : Object) (alike : Like o x) (ps : placesOf o ≡ placesOf x) where
   abbrev st′ : State
   st′ = put st d o
 
+  l : Like o (objAt st d)
+  l = subst (Like o) (sym is) alike
+
   hd : d .0 < 256
-  hd = in-slots st (laid-out w) d i number
+  hd = in-slots st (laid-out w) d i (ap objectNo is ∙ number)
 
   here : objAt st′ d ≡ o
   here = put-here st (laid-out w) d o hd l
@@ -55,11 +59,11 @@ module _ (st : State) (w : Formed st) (d : Slot) (i : ℕ) (number : objectNo (o
   like = put-like st (laid-out w) d o hd l
 
   laid : Laid st′
-  laid = laid-put st (laid-out w) d o (λ z. omega (arith, tag-of o i (l .number ∙ number))) (λ z. omega (arith, tag-of (objAt st d) i number)) (l .size)
+  laid = laid-put st (laid-out w) d o (λ z. omega (arith, tag-of o i (alike .number ∙ number))) (λ z. omega (arith, tag-of (objAt st d) i (ap objectNo is ∙ number))) (l .size)
 
   places-same : (k : ℕ) → placesOf (objAt st′ (slot k)) ≡ placesOf (objAt st (slot k))
   places-same k = elim (ℕ-discrete k (d .0)) [
-    | yes q ↦ subst (λ (i : ℕ). placesOf (objAt st′ (slot i)) ≡ placesOf (objAt st (slot i))) (sym q) (ap placesOf here ∙ ps)
+    | yes q ↦ subst (λ (i : ℕ). placesOf (objAt st′ (slot i)) ≡ placesOf (objAt st (slot i))) (sym q) (ap placesOf here ∙ ps ∙ sym (ap placesOf is))
     | no n ↦ ap placesOf (there k n)
   ]
 

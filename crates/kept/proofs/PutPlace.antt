@@ -3,7 +3,7 @@
 use mathlib.Core.Bool.{true}
 use mathlib.Core.List.{List}
 use mathlib.Core.Logic.{_≢_}
-use mathlib.Core.Path.{ap₂, fun-ext, refl, subst, sym, _∙_, _≡_, ap}
+use mathlib.Core.Path.{_∙_, _≡_, ap, ap₂, fun-ext, refl, subst, sym}
 use Prim.Native.Nat.{_*_, _+_, _<_, ℕ}
 use native.Mathlib.Decide.{ℕ-discrete}
 use native.Mathlib.Nat.{zero-add}
@@ -11,20 +11,19 @@ use native.Mathlib.Omega.{arith}
 use lib.Dec.{leb}
 use lib.ListN.{getD, length, length-set, set}
 use lib.Seq.{getD-set-other, getD-set-same}
+use Rattle.rules.specs.Formed.{Formed}
+use Rattle.rules.specs.WellFormed.{isRootOf, objectOk, one, right, rightOk, rootsOf}
+use Rattle.state.proofs.LaidAfter.{laid-place}
+use Rattle.state.proofs.Write.{is-table}
+use Rattle.state.specs.Layout.{Laid}
+use Rattle.state.specs.State.{Object, State, entriesIn, objAt, placeAt, placeNumber, placeNumbered, placesOf, putPlace, spotNumbered, table}
+use Rattle.words.proofs.Tests.{sum-more, sum-same}
 use Rattle.words.specs.Fields.{slot}
 use Rattle.words.specs.Sizes.{slotsFor}
 use Rattle.words.specs.Tests.{_&_, sumBelow}
-use Rattle.words.proofs.Tests.{sum-more, sum-same}
-use Rattle.state.specs.Layout.{Laid}
-use Rattle.state.specs.State.{Object, State, entriesIn, objAt, placeAt, placeNumber, placeNumbered, placesOf, putPlace, spotNumbered, table}
-use Rattle.state.proofs.LaidAfter.{laid-place}
-use Rattle.state.proofs.Write.{is-table}
-use Rattle.rules.specs.Formed.{Formed}
-use Rattle.rules.specs.Places.{spot}
-use Rattle.rules.specs.WellFormed.{isRootOf, objectOk, one, right, rightOk, rootsOf}
 use Rattle.kept.specs.Names.{Blank, Capability, Holds, Place, Slot, Spot, Under}
 use Rattle.kept.proofs.Base.{Base}
-use Rattle.kept.proofs.Descent.{Fits}
+use Rattle.kept.proofs.Descent.{Fits, fits-fresh}
 use Rattle.kept.proofs.Put.{put-here, put-like, put-there}
 use Rattle.kept.proofs.Roots.{formed-same}
 use Rattle.kept.proofs.Slots.{entries-in, number-spot, numbered}
@@ -43,9 +42,15 @@ whereIs t e s k = go (ℕ-discrete s t) (ℕ-discrete k e)
     go (yes p) (no n) = other (λ a b. n b)
     go (no n) q = other (λ a b. n a)
 
-module _ (st : State) (w : Base st) (t : Slot) (e : ℕ) (x : Place) (he : e < entriesIn st t) where
+module _ (st : State) (w : Base st) (p : Spot) (x : Place) (he : p .entry < entriesIn st (p .table)) where
+  abbrev t : Slot
+  t = p .table
+
+  abbrev e : ℕ
+  e = p .entry
+
   abbrev st′ : State
-  st′ = putPlace st (spot t e) x
+  st′ = putPlace st p x
 
   abbrev ps : List Place
   ps = placesOf (objAt st t)
@@ -70,7 +75,7 @@ module _ (st : State) (w : Base st) (t : Slot) (e : ℕ) (x : Place) (he : e < e
   place-like = put-like st (w .laid) t new (entries-in st (w .laid) t e he) new-like
 
   place-laid : Laid st′
-  place-laid = laid-place st (w .laid) (spot t e) x he
+  place-laid = laid-place st (w .laid) p x he
 
   -- ---- the places
   place-here : placeAt st′ t e ≡ x
@@ -84,13 +89,17 @@ module _ (st : State) (w : Base st) (t : Slot) (e : ℕ) (x : Place) (he : e < e
       pick (no m) = ap (λ (o : Object). getD (placesOf o) k Blank) (place-apart s m)
 
   -- the same by the numbers of places
-  pub new-numbered : placeNumbered st′ (placeNumber (spot t e)) ≡ x
-  new-numbered = numbered st′ place-laid t e (subst (λ (n : ℕ). e < n) (sym (place-like (t .0) .entries)) he) ∙ place-here
+  pub new-numbered : placeNumbered st′ (placeNumber p) ≡ x
+  new-numbered = numbered st′ place-laid p (subst (λ (n : ℕ). e < n) (sym (place-like (t .0) .entries)) he) ∙ place-here
 
-  pub but-numbered : (n : ℕ) → n ≢ placeNumber (spot t e) → placeNumbered st′ n ≡ placeNumbered st n
+  pub but-numbered : (n : ℕ) → n ≢ placeNumber p → placeNumbered st′ n ≡ placeNumbered st n
   but-numbered n d =
       ap (λ (p : Spot). placeAt st′ (p .table) (p .entry)) (spot-alike st st′ place-like n)
       ∙ place-there (spotNumbered st n .table .0) (spotNumbered st n .entry) (λ a b. d (omega (arith, number-spot st (w .laid) n, a, b)))
+
+  -- where it was blank, each right fits under its parent as it did
+  pub fits-filled : placeAt st t e ≡ Blank → (c : Capability) (n : ℕ) → Fits st c n → Fits st′ c n
+  fits-filled blank = fits-fresh st st′ (placeNumber p) but-numbered (numbered st (w .laid) p he ∙ blank)
 
   -- ---- rights and objects
   -- a right that fits under its parent as it did

@@ -6,13 +6,13 @@ use Prim.Native.Nat.{_<_, suc, zero, ℕ}
 use native.Mathlib.Omega.{arith}
 use lib.Dec.{eqb}
 use borrow.Author.Tests.{eq-eqb, eqb-true}
-use Rattle.words.specs.Fields.{slot}
-use Rattle.words.specs.Rights.{isRoot, kindNo, objectOf}
-use Rattle.words.proofs.Tests.{and-both, and-left, and-right, sum-zero}
-use Rattle.state.specs.State.{Object, State, body, directory, endpoint, free, objAt, placeAt, process, table}
+use Rattle.rules.proofs.Facts.{right-open}
 use Rattle.rules.specs.Formed.{Formed}
 use Rattle.rules.specs.WellFormed.{isRootOf, names, objectNo, one, oneRoot, right, rightOk, rootsOf}
-use Rattle.rules.proofs.Facts.{right-open}
+use Rattle.state.specs.State.{Object, State, body, directory, endpoint, free, objAt, placeAt, process, table}
+use Rattle.words.proofs.Tests.{and-both, and-left, and-right, sum-zero}
+use Rattle.words.specs.Fields.{slot}
+use Rattle.words.specs.Rights.{isRoot, kindNo, objectOf}
 use Rattle.kept.specs.Names.{Blank, Capability, Directory, Endpoint, Function, Holds, Kind, Memory, Place, Process, Slot, Table}
 use Rattle.kept.proofs.Base.{Base}
 
@@ -79,9 +79,6 @@ names-no st (Memory l u) n h e a b = absurd (a (sym e))
 names-no st (Process o) n h e a b = eqb-true _ _ h ∙ e
 names-no st (Endpoint o) n h e a b = eqb-true _ _ h ∙ e
 names-no st (Function l u) n h e a b = absurd (b (sym e))
-
-pub named-of : (st : State) (k : Kind) (s : Slot) (i : ℕ) → Of k s i → names st k ≡ true → objectNo (objAt st s) ≡ suc i
-named-of st k s i o h = subst (λ (n : ℕ). objectNo (objAt st (slot n)) ≡ suc i) (o .object) (names-no st k (suc i) h (o .number) (o .no-memory) (o .no-function))
 
 -- ---- a right as a root
 record RootIs (n : ℕ) (q : Slot) (c : Capability) : Type 0 where

@@ -8,17 +8,17 @@ use native.Mathlib.Decide.{decLt}
 use native.Mathlib.Nat.{le-of-eq, le-trans}
 use native.Mathlib.Omega.{arith}
 use lib.ListN.{List·getD-eq-default, getD}
-use Rattle.words.specs.Fields.{slot}
-use Rattle.words.specs.Rights.{isBlank}
-use Rattle.words.specs.Sizes.{slotsFor}
-use Rattle.state.specs.Bytes.{tagOf}
-use Rattle.state.specs.Layout.{Laid, lay}
-use Rattle.state.specs.State.{Object, State, body, directory, endpoint, entriesIn, firstOf, free, objAt, placeAt, placeNumber, placeNumbered, placesOf, process, sizeOf, spotNumbered, table}
+use Rattle.rules.specs.Places.{spot}
+use Rattle.rules.specs.WellFormed.{objectNo}
 use Rattle.state.proofs.Run.{object-part}
 use Rattle.state.proofs.Sizes.{goes-body, lay-suc, lay-zero}
 use Rattle.state.proofs.Write.{is-table, object-inside}
-use Rattle.rules.specs.Places.{spot}
-use Rattle.rules.specs.WellFormed.{objectNo}
+use Rattle.state.specs.Bytes.{tagOf}
+use Rattle.state.specs.Layout.{Laid, lay}
+use Rattle.state.specs.State.{Object, State, body, directory, endpoint, entriesIn, firstOf, free, objAt, placeAt, placeNumber, placeNumbered, placesOf, process, sizeOf, spotNumbered, table}
+use Rattle.words.specs.Fields.{slot}
+use Rattle.words.specs.Rights.{isBlank}
+use Rattle.words.specs.Sizes.{slotsFor}
 use Rattle.kept.specs.Names.{Blank, Capability, Holds, Slot, Spot}
 use Rattle.kept.proofs.Objects.{tag-of}
 
@@ -119,5 +119,5 @@ module _ (st : State) (w : Laid st) where
           let size : sizeOf (objAt st t) ≡ slotsFor (32 * entriesIn st t) = ap sizeOf is in
           at (t .0 + suc j) (omega arith) (ap (firstOf (t .0 + suc j)) (object-part st w t tag j (omega arith)))
 
-  pub numbered : (t : Slot) (e : ℕ) → e < entriesIn st t → placeNumbered st (placeNumber (spot t e)) ≡ placeAt st t e
-  numbered t e he = ap (λ (p : Spot). placeAt st (p .table) (p .entry)) (spot-number t e he)
+  pub numbered : (p : Spot) → p .entry < entriesIn st (p .table) → placeNumbered st (placeNumber p) ≡ placeAt st (p .table) (p .entry)
+  numbered p he = ap (λ (q : Spot). placeAt st (q .table) (q .entry)) (spot-number (p .table) (p .entry) he)

@@ -4,15 +4,15 @@ use mathlib.Core.Path.{ap, refl, subst, sym, _∙_, _≡_}
 use Prim.Native.Nat.{_+_, ℕ}
 use native.Mathlib.Omega.{arith}
 use borrow.Author.Tests.{eq-eqb}
+use Rattle.rules.proofs.Facts.{right-open}
+use Rattle.rules.specs.Places.{spot}
+use Rattle.rules.specs.WellFormed.{descends, isRootOf, one, parentFits, right, rightOk, rootsOf}
+use Rattle.state.specs.State.{State, entriesIn, placeAt, placeNumber, placeNumbered, spotNumbered}
+use Rattle.words.proofs.Flags.{inside-facts}
+use Rattle.words.proofs.Tests.{and-both, and-left, sum-part}
 use Rattle.words.specs.Fields.{slot}
 use Rattle.words.specs.Rights.{isRoot, kindNo, objectOf}
 use Rattle.words.specs.Tests.{sumBelow}
-use Rattle.words.proofs.Flags.{inside-facts}
-use Rattle.words.proofs.Tests.{and-both, and-left, sum-part}
-use Rattle.state.specs.State.{State, entriesIn, placeAt, placeNumber, placeNumbered, spotNumbered}
-use Rattle.rules.specs.Places.{spot}
-use Rattle.rules.specs.WellFormed.{descends, isRootOf, one, parentFits, right, rightOk, rootsOf}
-use Rattle.rules.proofs.Facts.{right-open}
 use Rattle.kept.specs.Names.{Blank, Capability, Holds, Origin, Place, Root, Slot, Spot, Under}
 use Rattle.kept.proofs.Base.{Base}
 use Rattle.kept.proofs.Chain.{Reaches, child, code, originCode, root}
@@ -60,5 +60,5 @@ module _ (st : State) (w : Base st) (o : Slot) (n : ℕ) (none : rootsOf st n o 
   pub unnamed : (t : Slot) (e : ℕ) (c : Capability) → placeAt st t e ≡ Holds c → kindNo (c .kind) ≡ n → objectOf (c .kind) .0 ≡ o .0 → ⊥
   unnamed t e c h a b =
       let p : ℕ = placeNumber (spot t e) in
-      let q : placeNumbered st p ≡ Holds c = numbered st (w .laid) t e (holds-in st t e c h) ∙ h in
+      let q : placeNumbered st p ≡ Holds c = numbered st (w .laid) (spot t e) (holds-in st t e c h) ∙ h in
       no-right p (reaches-right st c p q (right-ok p c q)) c q a b

@@ -8,10 +8,9 @@ use borrow.Author.Tests.{eqb-true, leb-true, ltb-true}
 use Rattle.rules.specs.Addresses.{addressArg}
 use Rattle.rules.specs.Numbers.{argument, asDirectory, asEndpoint, asMemory, asProcess, asTable, directoryArg, endpointArg, filled, lookup, memoryArg, processArg, rightAt, tableArg, topArg, twoStep}
 use Rattle.rules.specs.Places.{frozenAt, hasChildren, hasUsers, spot, thawedAt, toDelete, toFill, toRemove, usedAt}
-use Rattle.rules.specs.WellFormed.{right}
 use Rattle.state.specs.State.{Object, State, body, directory, endpoint, free, isFree, placeAt, process, table}
 use Rattle.words.proofs.Tests.{all-at, and-left, and-right, not-false}
-use Rattle.words.specs.Fields.{address, capabilityNumber}
+use Rattle.words.specs.Fields.{capabilityNumber}
 use Rattle.words.specs.Rights.{isBlank, isRoot}
 use Rattle.words.specs.Try.{Try}
 use Rattle.passed.specs.Found.{By, Found, Plot, Stands, Vacant, spanned, stretched}
@@ -19,6 +18,10 @@ use Rattle.passed.specs.Names.{Blank, CapNull, CapType, Capability, Capa
 use Rattle.passed.specs.Passed.{ByTop}
 use Rattle.passed.proofs.Given.{Given, any, bind, given, refused, seq, test, then}
 use Rattle.passed.proofs.OfKind.{is-directory, is-endpoint, is-memory, is-process, is-table}
+
+pub is-blank : (p : Place) → isBlank p ≡ true → p ≡ Blank
+is-blank Blank h = refl
+is-blank (Holds c) h = absurd (false≢true h)
 
 module _ (st : State) (t : Slot) where
   -- ---- capability numbers
@@ -74,13 +77,9 @@ module _ (st : State) (t : Slot) where
     pub is : spot u e ≡ p
     pub vacant : Vacant st p
 
-  blank : (p : Place) → isBlank p ≡ true → p ≡ Blank
-  blank Blank h = refl
-  blank (Holds c) h = absurd (false≢true h)
-
   pub filling : (u : Slot) (e : ℕ) → Given (toFill st u e) (Filling u e)
   unfolding toFill
-  filling u e = test _ λ h. test _ λ h₁. test _ λ h₂. given (record { is = refl; vacant = record { below = ltb-true _ _ h; blank = blank _ h₂ } })
+  filling u e = test _ λ h. test _ λ h₁. test _ λ h₂. given (record { is = refl; vacant = record { below = ltb-true _ _ h; blank = is-blank _ h₂ } })
 
   used : (u : Slot) (e : ℕ) → Given (usedAt st u e) (Stands st (spot u e))
   unfolding usedAt

@@ -11,7 +11,6 @@ use borrow.Author.Tests.{eqb-true, leb-true, ltb-true}
 use Rattle.rules.specs.Calls.{asDirectoryObject, asPage, askedFlags, askedKind, callOf, callTable, callerTable, changeDirectory, changeTable, construct, createDirectory, createEndpoint, createProcess, createTable, delegate, deleteDirectory, deleteEndpoint, deleteProcess, deleteTable, destruct, freeze, function, granted, mapPage, most, noCall, plan, receive, remove, removePage, send, sizeAt}
 use Rattle.rules.specs.Numbers.{asEndpoint, asProcess, asTable}
 use Rattle.rules.specs.Places.{spot}
-use Rattle.rules.specs.WellFormed.{right}
 use Rattle.state.specs.State.{Object, State, body, directory, endpoint, free, objAt, placeNumber, positionsIn, process, table}
 use Rattle.words.proofs.Judged.{bind-ok}
 use Rattle.words.proofs.Tests.{and-left, and-right, not-false}

@@ -3,9 +3,8 @@ use mathlib.Core.Logic.{_⊎_}
 use mathlib.Core.Path.{_≡_}
 use Prim.Native.Nat.{_%_, _*_, _+_, _<_, ℕ, _≤_}
 use Rattle.rules.specs.Addresses.{slotOf}
-use Rattle.rules.specs.WellFormed.{right}
-use Rattle.state.specs.State.{State, entriesIn, free, objAt, placeAt, table}
-use Rattle.words.specs.Fields.{address, slot}
+use Rattle.state.specs.State.{State, entriesIn, free, objAt, placeAt}
+use Rattle.words.specs.Fields.{slot}
 use Rattle.words.specs.Sizes.{slotSize}
 use Rattle.passed.specs.Names.{Blank, Capability, Directory, Holds, KernelAddress, Kind, Memory, Slot, Span, Spot, Stretch, Table}
 

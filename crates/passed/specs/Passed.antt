@@ -4,12 +4,11 @@ use mathlib.Core.Bool.{false, true}
 use mathlib.Core.Logic.{_⊎_}
 use mathlib.Core.Path.{_≡_}
 use Prim.Native.Nat.{_*_, _+_, _-_, _<_, _^_, ℕ, _≤_}
-use Rattle.rules.specs.Calls.{askedFlags, askedKind, hangsSomewhere, hasChildDirectory, isEmptyTable, most}
+use Rattle.rules.specs.Calls.{askedFlags, askedKind, hangsSomewhere, hasChildDirectory, isEmptyTable}
 use Rattle.rules.specs.Places.{hasChildren, hasUsers}
-use Rattle.rules.specs.WellFormed.{geometric, right}
-use Rattle.state.specs.State.{State, bootMark, countOf, directory, objAt, placeNumber, positionAt, positionsIn, process, shapeAt, table}
+use Rattle.rules.specs.WellFormed.{geometric}
+use Rattle.state.specs.State.{State, bootMark, countOf, objAt, placeNumber, positionAt, positionsIn, process, shapeAt}
 use Rattle.words.specs.Fields.{slot}
-use Rattle.words.specs.Refusals.{number}
 use Rattle.words.specs.Rights.{inside, isRoot, someRange, subset}
 use Rattle.words.specs.Sizes.{entrySize, headerSize, mostEntries, positionSize, slotsFor}
 use Rattle.passed.specs.Found.{By, Plot, Stands, Vacant, spanned, stretched}

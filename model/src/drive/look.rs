@@ -78,9 +78,13 @@ pub fn position_in(
         .map(|i| i as u32)
 }
 
+/// The slot at a kernel address.
+pub fn slot_of(address: u32) -> usize {
+    (address - BASE) as usize / SLOT_BYTES
+}
+
 /// A run of free slots within `low..high` (addresses), sought from a random one on.
 pub fn free_run(s: &State, rng: &mut Rng, low: u32, high: u32, slots: usize) -> Option<u32> {
-    let slot_of = |address: u32| (address - BASE) as usize / SLOT_BYTES;
     let (low, high) = (slot_of(low), slot_of(high));
     let n = (high + 1).checked_sub(low + slots).filter(|&n| n > 0)?;
     let from = rng.below(n);

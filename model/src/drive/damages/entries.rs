@@ -8,7 +8,7 @@ use crate::entry::Entry;
 use crate::kinds::{self, all_flags};
 use crate::layout::{argument, memory_of, tag, BASE, END};
 
-pub const AIMED: [Damage; 17] = [
+pub const AIMED: [Damage; 19] = [
     damage("entry: a bit", Level::Bit, |s, r| {
         let at = 32 * any_right(s, r)?;
         bit(s, r, at, at + 32)
@@ -28,6 +28,14 @@ pub const AIMED: [Damage; 17] = [
     }),
     damage("entry: kind", Level::Word, |s, r| {
         change(s, r, |e, r| e.kind = r.within(0, 8))
+    }),
+    damage("entry: kind with junk above", Level::Bit, |s, r| {
+        change(s, r, |e, r| e.kind |= 1 << r.within(3, 31))
+    }),
+    damage("entry: of no kind, all else zero", Level::Word, |s, r| {
+        let place = any_blank(s, r)?;
+        let kind = r.pick(&[7, 8, 9, 256, 1 << 31]);
+        change_at(s, r, place, |e, _| e.kind = kind)
     }),
     damage("entry: a flag bit", Level::Bit, |s, r| {
         change(s, r, |e, r| e.flags ^= 1 << r.below(9))

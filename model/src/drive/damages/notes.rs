@@ -2,12 +2,13 @@
 
 use super::pick::{any_blank, any_object, any_tagged, bit};
 use super::{damage, Damage, Level};
-use crate::drive::look::places;
+use crate::drive::look::{free_run, places, slot_of};
 use crate::drive::rng::Rng;
 use crate::entry::{blank, Entry};
 use crate::kinds;
 use crate::layout::{
-    argument, directory_slots, memory_of, note_of, table_slots, tag, State, CLOCK, NOTES, SLOTS,
+    argument, directory_slots, memory_of, note_of, table_slots, tag, State, BASE, CLOCK, END,
+    NOTES, SLOTS,
 };
 use crate::objects;
 
@@ -82,23 +83,33 @@ fn past_the_end(s: &mut State, r: &mut Rng) -> Option<()> {
     Some(())
 }
 
-/// A new object of one slot, most often with its root.
+/// A new object, most often with its root; its size may be out of range.
 fn put_up(s: &mut State, r: &mut Rng) -> Option<()> {
     let place = any_blank(s, r)?;
-    let slot = any_tagged(s, r, tag::FREE)?;
-    let (kind, wanted, given, high) = r.pick(&[
-        (kinds::TABLE, tag::TABLE, 2, 0),
-        (kinds::TABLE, tag::TABLE, 1, 0),
-        (kinds::DIRECTORY, tag::DIRECTORY, 2, 3),
-        (kinds::ENDPOINT, tag::ENDPOINT, 0, 0),
+    let (kind, wanted) = r.pick(&[
+        (kinds::TABLE, tag::TABLE),
+        (kinds::DIRECTORY, tag::DIRECTORY),
+        (kinds::ENDPOINT, tag::ENDPOINT),
     ]);
-    objects::stand(s, slot, 1, wanted, given);
+    let (given, slots, high) = match kind {
+        kinds::TABLE => {
+            let entries = r.pick(&[0, 1, 2, 3, 64, 65, 66]);
+            (entries as u8, table_slots(entries).max(1), 0)
+        }
+        kinds::DIRECTORY => {
+            let order = r.pick(&[0, 1, 2, 3, 9]);
+            (order as u8, directory_slots(order), (1 << order) - 1)
+        }
+        _ => (0, 1, 0),
+    };
+    let first = slot_of(free_run(s, r, BASE, END, slots)?);
+    objects::stand(s, first, slots, wanted, given);
     if kind == kinds::DIRECTORY {
         let size = r.within(4, 32);
-        objects::head(s, slot, size, r.chance(50), 0);
+        objects::head(s, first, size, r.chance(50), 0);
     }
-    if r.chance(70) {
-        Entry::root(kind, 0, high, slot).write(s, place);
+    if r.chance(80) {
+        Entry::root(kind, 0, high, first).write(s, place);
     }
     Some(())
 }

@@ -8,9 +8,10 @@ use super::{damage, Damage, Level};
 use crate::drive::look::{firsts, places};
 use crate::drive::rng::Rng;
 use crate::entry::{blank, Entry};
-use crate::layout::{argument, put, table_slots, tag, word, State, PLACES, SLOTS};
+use crate::kinds;
+use crate::layout::{argument, memory_of, put, table_slots, tag, word, State, PLACES, SLOTS};
 
-pub const AIMED: [Damage; 17] = [
+pub const AIMED: [Damage; 18] = [
     damage("parent: any place", Level::Word, |s, r| {
         change(s, r, |e, r| e.parent = r.within(0, PLACES as u32 + 2))
     }),
@@ -27,6 +28,11 @@ pub const AIMED: [Damage; 17] = [
         change_child(s, r, |e, _| e.parent = parent)
     }),
     damage("parent: a copy outside all tables", Level::Many, outside),
+    damage(
+        "parent: what only looks like a right",
+        Level::Many,
+        lookalike,
+    ),
     damage("parents: a cycle of equals", Level::Many, cycle),
     damage(
         "parents: a cycle in the root's stead",
@@ -122,6 +128,26 @@ fn outside(s: &mut State, r: &mut Rng) -> Option<()> {
         parent.write(s, place);
     }
     change_at(s, r, child, |e, _| e.parent = place as u32 + 1)
+}
+
+/// An endpoint's count, or a directory's size order, reads like the kind of a root: function with
+/// the range 0..0, or table 0. A child of that is put up.
+fn lookalike(s: &mut State, r: &mut Rng) -> Option<()> {
+    let blank = any_blank(s, r)?;
+    let tagged = r.pick(&[tag::ENDPOINT, tag::DIRECTORY]);
+    let slot = any_tagged(s, r, tagged)?;
+    let kind = match tagged {
+        tag::ENDPOINT => r.pick(&[kinds::FUNCTION, kinds::TABLE]),
+        _ => kinds::FUNCTION,
+    };
+    put(s, memory_of(slot), kind);
+    let seeming = Entry::read(s, 2 * slot);
+    let child = Entry {
+        parent: 2 * slot as u32 + 1,
+        ..seeming
+    };
+    child.write(s, blank);
+    Some(())
 }
 
 /// Two equal rights, each the other's parent, beside the root.
