@@ -11,11 +11,13 @@ use borrow.Author.Tests.{eqb-true, leb-true, ltb-true}
 use Rattle.rules.specs.Calls.{asDirectoryObject, asPage, askedFlags, askedKind, callOf, callTable, callerTable, changeDirectory, changeTable, construct, createDirectory, createEndpoint, createProcess, createTable, delegate, deleteDirectory, deleteEndpoint, deleteProcess, deleteTable, destruct, freeze, function, granted, mapPage, most, noCall, plan, receive, remove, removePage, send, sizeAt}
 use Rattle.rules.specs.Numbers.{asEndpoint, asProcess, asTable}
 use Rattle.rules.specs.Places.{spot}
+use Rattle.rules.specs.WellFormed.{right}
 use Rattle.state.specs.State.{Object, State, body, directory, endpoint, free, objAt, placeNumber, positionsIn, process, table}
 use Rattle.words.proofs.Judged.{bind-ok}
 use Rattle.words.proofs.Tests.{and-left, and-right, not-false}
 use Rattle.words.specs.Fields.{D0, D1, callNumber, slot}
 use Rattle.words.specs.Rights.{inside, someRange, subset}
+use Rattle.words.specs.Tests.{choose}
 use Rattle.words.specs.Try.{Try, ok!}
 use Rattle.passed.specs.Found.{By, Plot, spanned, stretched}
 use Rattle.passed.specs.Names.{Action, Capability, Child, Empty, Endpoint, Kind, Page, Position, Process, Refusal, Slot, Span, Spot, Table, Thawed, Under, Words}
@@ -202,7 +204,7 @@ module _ (st : State) (t : Slot) where
   most-few : (n : ℕ) → most n < 2 ^ 31
   most-few n = go (eqb n 2)
     where
-      go : (b : Bool) → elim b [ true ↦ 1 | false ↦ 2 ^ 31 - 1 ] < 2 ^ 31
+      go : (b : Bool) → choose b 1 (2 ^ 31 - 1) < 2 ^ 31
       go true = omega arith
       go false = omega arith
 

@@ -83,6 +83,15 @@ scripts =
     -- a table to delete must be empty; a root is not removed, a child is not deleted
     ∷ script (makeTable ∷ makeEndpoint ∷ handOver ∷ freezePlace 6 ∷ ticksThen 8 []) (four 0x00020000 6 0 0) (negsuc 5)
     ∷ script (makeEndpoint ∷ freezePlace 7 ∷ ticksThen 8 []) (four 0x00050000 7 0 0) (negsuc 8)
+    -- "child to delete": a right with SND to that endpoint, at place 8 of the boot table
+    ∷ script (makeEndpoint ∷ by18 0x00030000 8 7 1 ∷ freezePlace 8 ∷ ticksThen 8 []) (four 0x00110000 8 0 0) (negsuc 8)
+    -- and it can be removed
+    ∷ script (makeEndpoint ∷ by18 0x00030000 8 7 1 ∷ freezePlace 8 ∷ ticksThen 8 []) (four 0x00050000 8 0 0) (pos 0)
+    -- a new table is blank, so that its place 0 can be filled
+    ∷ script (makeTable ∷ makeEndpoint ∷ []) (four 0x00030000 0x00060000 0x00000007 1) (pos 0)
+    -- "P2 table PROC_CPT": a right to the boot table without that flag, at place 8, does not do; the root does
+    ∷ script (by18 0x00030000 8 0 0x7F ∷ []) (four 0x000E0000 2 8 0) (negsuc 4)
+    ∷ script [] (four 0x000E0000 2 0 0) (pos 0)
     -- "deleting the boot endpoint"
     ∷ script (freezePlace 5 ∷ ticksThen 8 []) (four 0x00110000 5 0 0) (negsuc 15)
     -- "−15 before the flag, after the kind"; option 0 blocks

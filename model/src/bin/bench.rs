@@ -22,7 +22,7 @@ fn main() {
     );
     println!("the cache; it is not cleared to zero first. One run is one check or one call.");
     println!("{:<34}{:>9}{:>9}{:>9}", "", "kernel", "model", "ratio");
-    for state in [prepared::small(), prepared::full()] {
+    for state in [prepared::boot(), prepared::small(), prepared::full()] {
         println!("{} ({} rights)", state.name, state.rights());
         line(
             "check",

@@ -92,6 +92,7 @@ impl Pair {
                 let what = format!("call {caller} {w0:#x} {w1:#x} {w2:#x} {w3:#x}");
                 self.judge(&what, answers);
                 met.note(words[0] >> 16 & 63, answers.0);
+                self.sound_after(answers.0);
             }
             Step::Tick => {
                 let answers = self.both(|api, s| (api.tick)(&mut s[..]));
@@ -108,15 +109,21 @@ impl Pair {
         }
     }
 
-    /// Goes on until nothing is planned, and asks for a sound state: "a tick or any call on such a
-    /// state leaves one".
+    /// Goes on until nothing is planned.
     fn settle(&mut self, met: &mut Coverage, made: &mut Made) {
         while !self.generator.at_rest() {
             self.step(met, made);
         }
+    }
+
+    /// "a tick or any call on such a state leaves one".
+    fn sound_after(&self, answer: i32) {
+        if answer < 0 {
+            return;
+        }
         if let Err(fault) = model::verdict(&self.model[..]) {
             self.fail(&format!(
-                "a session left a state that is not well formed: {fault:?}"
+                "a call left a state that is not well formed: {fault:?}"
             ));
         }
     }

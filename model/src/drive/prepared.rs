@@ -1,5 +1,5 @@
-//! States built by calls on which the bench measures: the boot state with little beside, and one
-//! full of rights. In both the same calls succeed.
+//! States built by calls on which the bench measures: the boot state, the same with a table ripe
+//! for deletion, and one full of rights.
 
 use super::look;
 use crate::entry::Entry;
@@ -73,6 +73,17 @@ fn calls() -> Vec<Timed> {
             words: [0x0002_0000, 6, 0, 0],
         },
     ]
+}
+
+/// The boot state itself, which has no table to delete.
+pub fn boot() -> Prepared {
+    let mut calls = calls();
+    calls.retain(|call| call.name != "delete table");
+    Prepared {
+        name: "boot state",
+        bytes: booted(),
+        calls,
+    }
 }
 
 pub fn small() -> Prepared {

@@ -1,85 +1,62 @@
+-- `judging_endpoints::functions::judge_function` meets its contract: each return rewrites with the steps that led there.
+use borrow.Author.Tests.{eq-eqb, le-leb, lt-leb, ne-eqb}
+use borrow.Author.Needs.{needs}
 use Rattle.words.specs.Tests.{_&_}
 use Rattle.rules.specs.Calls.{function}
 use Rattle.words.specs.Try.{_>>=_, _>>_, need}
-use borrow.Author.Tests.{eq-eqb, le-leb, lt-leb, ne-eqb}
-use borrow.Author.Needs.{needs}
 use Rattle.judging_endpoints.proofs.functions.judge_function.Statement.{statement}
 use Rattle.judging_endpoints.proofs.functions.judge_function.Tie as tie
-use Rattle.judging_endpoints.proofs.functions.judge_function.Reads as reads
-use Rattle.judging_endpoints.proofs.functions.judge_function.Lts as lts
-use Rattle.judging_numbers.proofs.kinds.as_function.Reads as as-function-reads
-use Rattle.judging_numbers.proofs.lookups.look_up.Reads as look-up-reads
-use Rattle.reading.proofs.clock.clock.Reads as clock-reads
-use Rattle.words.proofs.answers.why_range.Reads as why-range-reads
-use Rattle.words.proofs.answers.why_right.Reads as why-right-reads
-use Rattle.words.proofs.fields.number_in_c.Reads as number-in-c-reads
 
--- src/functions.rt:19:27
 number-in-c-requires : tie.Need-number-in-c-requires
 number-in-c-requires c κs = search needs
 
--- src/functions.rt:19:9
 look-up-requires : tie.Need-look-up-requires
 look-up-requires c κs = search needs
 
--- src/functions.rt:20:28
 enum-known-l : tie.Need-enum-known-l
 enum-known-l c = search needs
 
--- src/functions.rt:21:30
 enum-told : tie.Need-enum-told
 enum-told c = search needs
 
--- src/functions.rt:21:30
 why-right-requires : tie.Need-why-right-requires
 why-right-requires c κs = search needs
 
--- src/functions.rt:21:9
 returns : tie.Need-returns
 unfolding function _>>=_ _>>_ need _&_
 returns c = rw (c .why-right .ensures, ← (rw (c .before .before .before .before .number-in-c .ensures) at (c .before .before .before .look-up .ensures)), c .before .enum-told .given .1)
 
--- src/functions.rt:24:9
 as-function-requires : tie.Need-as-function-requires
 as-function-requires c κs = search needs
 
--- src/functions.rt:25:28
 enum-known-a : tie.Need-enum-known-a
 enum-known-a c = search needs
 
--- src/functions.rt:26:30
 enum-told-2 : tie.Need-enum-told-2
 enum-told-2 c = search needs
 
--- src/functions.rt:26:30
 why-range-requires : tie.Need-why-range-requires
 why-range-requires c κs = search needs
 
--- src/functions.rt:26:9
 returns-2 : tie.Need-returns-2
 unfolding function _>>=_ _>>_ need _&_
 returns-2 c = rw (c .why-range .ensures, ← (rw (c .before .before .before .before .before .before .before .before .number-in-c .ensures) at (c .before .before .before .before .before .before .before .look-up .ensures)), c .before .before .before .before .before .l .given .1, ← c .before .before .before .as-function .ensures, c .before .enum-told2 .given .1)
 
--- src/functions.rt:30:9
 returns-3 : tie.Need-returns-3
 unfolding function _>>=_ _>>_ need _&_
 returns-3 c = rw (← (rw (c .before .before .before .before .before .before .before .before .before .before .before .number-in-c .ensures) at (c .before .before .before .before .before .before .before .before .before .before .look-up .ensures)), c .before .before .before .before .before .before .before .before .l .given .1, ← c .before .before .before .before .before .before .as-function .ensures, c .before .before .before .before .a .given .1, c .before .before .struct-known .given .1, c .before .struct-known2 .given .1, lt-leb _ _ (c .if1 .taken))
 
--- src/functions.rt:33:9
 returns-4 : tie.Need-returns-4
 unfolding function _>>=_ _>>_ need _&_
 returns-4 c = rw (← (rw (c .before .before .before .before .before .before .before .before .before .before .before .before .before .number-in-c .ensures) at (c .before .before .before .before .before .before .before .before .before .before .before .before .look-up .ensures)), c .before .before .before .before .before .before .before .before .before .before .l .given .1, ← c .before .before .before .before .before .before .before .before .as-function .ensures, c .before .before .before .before .before .before .a .given .1, c .before .before .before .before .struct-known .given .1, c .before .before .before .struct-known2 .given .1, le-leb _ _ (c .before .before .if1 .left), c .before .struct-known3 .given .1, lt-leb _ _ (c .if2 .taken))
 
--- src/functions.rt:36:9
 returns-5 : tie.Need-returns-5
 unfolding function _>>=_ _>>_ need _&_
 returns-5 c = rw (← (rw (c .before .before .before .before .before .before .before .before .before .before .before .before .before .before .number-in-c .ensures) at (c .before .before .before .before .before .before .before .before .before .before .before .before .before .look-up .ensures)), c .before .before .before .before .before .before .before .before .before .before .before .l .given .1, ← c .before .before .before .before .before .before .before .before .before .as-function .ensures, c .before .before .before .before .before .before .before .a .given .1, c .before .before .before .before .before .struct-known .given .1, c .before .before .before .before .struct-known2 .given .1, le-leb _ _ (c .before .before .before .if1 .left), c .before .before .struct-known3 .given .1, le-leb _ _ (c .before .if2 .left), ne-eqb _ _ (c .if3 .taken))
 
--- src/functions.rt:38:29
 clock-requires : tie.Need-clock-requires
 clock-requires c κs = search needs
 
--- src/functions.rt:16:1
 returns-6 : tie.Need-returns-6
 unfolding function _>>=_ _>>_ need _&_
 returns-6 c = rw (← (rw (c .before .before .before .before .before .before .before .before .before .before .before .before .before .before .before .number-in-c .ensures) at (c .before .before .before .before .before .before .before .before .before .before .before .before .before .before .look-up .ensures)), c .before .before .before .before .before .before .before .before .before .before .before .before .l .given .1, ← c .before .before .before .before .before .before .before .before .before .before .as-function .ensures, c .before .before .before .before .before .before .before .before .a .given .1, c .before .before .before .before .before .before .struct-known .given .1, c .before .before .before .before .before .struct-known2 .given .1, le-leb _ _ (c .before .before .before .before .if1 .left), c .before .before .before .struct-known3 .given .1, le-leb _ _ (c .before .before .if2 .left), eq-eqb _ _ (c .before .if3 .left), ← c .clock .ensures)

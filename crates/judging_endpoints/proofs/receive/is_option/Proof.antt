@@ -3,15 +3,11 @@ use borrow.Author.Tests.{eq-eqb, ne-eqb}
 use Rattle.words.specs.Tests.{_or_}
 use Rattle.judging_endpoints.proofs.receive.is_option.Statement.{statement}
 use Rattle.judging_endpoints.proofs.receive.is_option.Tie as tie
-use Rattle.judging_endpoints.proofs.receive.is_option.Reads as reads
-use Rattle.judging_endpoints.proofs.receive.is_option.Lts as lts
 
--- src/receive.rt:25:9
 returns : tie.Need-returns
 unfolding _or_
 returns c = rw (eq-eqb _ _ (c .if1 .taken))
 
--- src/receive.rt:21:1
 returns-2 : tie.Need-returns-2
 unfolding _or_
 returns-2 c = rw (ne-eqb _ _ (c .if1 .left))

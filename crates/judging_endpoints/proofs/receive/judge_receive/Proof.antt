@@ -1,88 +1,73 @@
+-- `judging_endpoints::receive::judge_receive` meets its contract: each return rewrites with the steps that led there.
+use mathlib.Core.Path.{sym, _∙_}
+use native.Mathlib.Omega.{arith}
+use borrow.Author.Tests.{not-false, not-true}
 use borrow.Author.Needs.{needs}
+use Rattle.judging_endpoints.proofs.Options.{option-few}
+use Rattle.judging_endpoints.specs.Taken.{taken}
+use Rattle.rules.specs.Calls.{receive}
+use Rattle.words.specs.Try.{_>>=_, _>>_, need}
 use Rattle.judging_endpoints.proofs.receive.judge_receive.Statement.{statement}
 use Rattle.judging_endpoints.proofs.receive.judge_receive.Tie as tie
-use Rattle.judging_endpoints.proofs.receive.judge_receive.Reads as reads
-use Rattle.judging_endpoints.proofs.receive.judge_receive.Lts as lts
-use Rattle.judging_endpoints.proofs.receive.is_option.Reads as is-option-reads
-use Rattle.judging_endpoints.proofs.receive.taken.Reads as taken-reads
-use Rattle.judging_numbers.proofs.kinds.as_endpoint.Reads as as-endpoint-reads
-use Rattle.judging_numbers.proofs.lookups.has_flag.Reads as has-flag-reads
-use Rattle.judging_numbers.proofs.lookups.look_up.Reads as look-up-reads
-use Rattle.words.proofs.answers.why_right.Reads as why-right-reads
-use Rattle.words.proofs.answers.why_slot.Reads as why-slot-reads
-use Rattle.words.proofs.fields.number_in_word.Reads as number-in-word-reads
 
--- src/receive.rt:62:27
 number-in-word-requires : tie.Need-number-in-word-requires
 number-in-word-requires c κs = search needs
 
--- src/receive.rt:62:9
 look-up-requires : tie.Need-look-up-requires
 look-up-requires c κs = search needs
 
--- src/receive.rt:63:28
 enum-known-l : tie.Need-enum-known-l
 enum-known-l c = search needs
 
--- src/receive.rt:64:30
 enum-told : tie.Need-enum-told
 enum-told c = search needs
 
--- src/receive.rt:64:30
 why-right-requires : tie.Need-why-right-requires
 why-right-requires c κs = search needs
 
--- src/receive.rt:64:9
 returns : tie.Need-returns
-returns c = ?
+unfolding receive _>>=_ _>>_ need taken
+returns c = rw (c .why-right .ensures, ← (rw (c .before .before .before .before .number-in-word .ensures) at (c .before .before .before .look-up .ensures)), c .before .enum-told .given .1)
 
--- src/receive.rt:67:9
 as-endpoint-requires : tie.Need-as-endpoint-requires
 as-endpoint-requires c κs = search needs
 
--- src/receive.rt:68:27
 enum-known-a : tie.Need-enum-known-a
 enum-known-a c = search needs
 
--- src/receive.rt:69:30
 enum-told-2 : tie.Need-enum-told-2
 enum-told-2 c = search needs
 
--- src/receive.rt:69:30
 why-slot-requires : tie.Need-why-slot-requires
 why-slot-requires c κs = search needs
 
--- src/receive.rt:69:9
 returns-2 : tie.Need-returns-2
-returns-2 c = ?
+unfolding receive _>>=_ _>>_ need taken
+returns-2 c = rw (c .why-slot .ensures, ← (rw (c .before .before .before .before .before .before .before .before .number-in-word .ensures) at (c .before .before .before .before .before .before .before .look-up .ensures)), c .before .before .before .before .before .l .given .1, ← c .before .before .before .as-endpoint .ensures, c .before .enum-told2 .given .1)
 
--- src/receive.rt:72:9
 is-option-requires : tie.Need-is-option-requires
 is-option-requires c κs = search needs
 
--- src/receive.rt:73:9
 returns-3 : tie.Need-returns-3
-returns-3 c = ?
+unfolding receive _>>=_ _>>_ need taken
+returns-3 c = rw (← (rw (c .before .before .before .before .before .before .before .before .before .before .number-in-word .ensures) at (c .before .before .before .before .before .before .before .before .before .look-up .ensures)), c .before .before .before .before .before .before .before .l .given .1, ← c .before .before .before .before .before .as-endpoint .ensures, c .before .before .before .a .given .1, ← c .before .is-option .ensures, not-true (c .before .is-option .result) (c .if1 .taken))
 
--- src/receive.rt:75:27
 add-has-flag : tie.Need-add-has-flag
-add-has-flag c = ?
+add-has-flag c = omega (arith, option-few (c .before .before .before .before .before .before .before .before .before .before .before .before .args .w .p2) (sym (c .before .is-option .ensures) ∙ not-false (c .before .is-option .result) (c .if1 .left)))
 
--- src/receive.rt:75:9
 has-flag-requires : tie.Need-has-flag-requires
-has-flag-requires c κs = ?
+has-flag-requires c κs = omega (arith, option-few (c .before .before .before .before .before .before .before .before .before .before .before .before .args .w .p2) (sym (c .before .is-option .ensures) ∙ not-false (c .before .is-option .result) (c .if1 .left)))
 
--- src/receive.rt:76:9
 returns-4 : tie.Need-returns-4
-returns-4 c = ?
+unfolding receive _>>=_ _>>_ need taken
+returns-4 c = rw (← (rw (c .before .before .before .before .before .before .before .before .before .before .before .before .number-in-word .ensures) at (c .before .before .before .before .before .before .before .before .before .before .before .look-up .ensures)), c .before .before .before .before .before .before .before .before .before .l .given .1, ← c .before .before .before .before .before .before .before .as-endpoint .ensures, c .before .before .before .before .before .a .given .1, ← c .before .before .before .is-option .ensures, not-false (c .before .before .before .is-option .result) (c .before .before .if1 .left), ← c .before .has-flag .ensures, not-true (c .before .has-flag .result) (c .if2 .taken))
 
--- src/receive.rt:78:5
 taken-requires : tie.Need-taken-requires
 taken-requires c κs = search needs
 
--- src/receive.rt:59:1
 returns-5 : tie.Need-returns-5
-returns-5 c = ?
+unfolding receive _>>=_ _>>_ need taken
+returns-5 c = rw (← (rw (c .before .before .before .before .before .before .before .before .before .before .before .before .before .number-in-word .ensures) at (c .before .before .before .before .before .before .before .before .before .before .before .before .look-up .ensures)), c .before .before .before .before .before .before .before .before .before .before .l .given .1, ← c .before .before .before .before .before .before .before .before .as-endpoint .ensures, c .before .before .before .before .before .before .a .given .1, ← c .before .before .before .before .is-option .ensures, not-false (c .before .before .before .before .is-option .result) (c .before .before .before .if1 .left), ← c .before .before .has-flag .ensures, not-false (c .before .before .has-flag .result) (c .before .if2 .left), ← c .taken .ensures)
 
 pub judge-receive-spec : {M : Type 1} → statement M
 judge-receive-spec =

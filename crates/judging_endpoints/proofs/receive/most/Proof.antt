@@ -2,14 +2,10 @@
 use borrow.Author.Tests.{eq-eqb, ne-eqb}
 use Rattle.judging_endpoints.proofs.receive.most.Statement.{statement}
 use Rattle.judging_endpoints.proofs.receive.most.Tie as tie
-use Rattle.judging_endpoints.proofs.receive.most.Reads as reads
-use Rattle.judging_endpoints.proofs.receive.most.Lts as lts
 
--- src/receive.rt:35:9
 returns : tie.Need-returns
 returns c = rw (eq-eqb _ _ (c .if1 .taken))
 
--- src/receive.rt:31:1
 returns-2 : tie.Need-returns-2
 returns-2 c = rw (ne-eqb _ _ (c .if1 .left))
 

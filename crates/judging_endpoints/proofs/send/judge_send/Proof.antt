@@ -1,55 +1,40 @@
-use Rattle.rules.specs.Calls.{send}
-use Rattle.words.specs.Try.{_>>=_, _>>_, need}
+-- `judging_endpoints::send::judge_send` meets its contract: each return rewrites with the steps that led there.
 use borrow.Author.Tests.{le-ltb, lt-ltb}
 use borrow.Author.Needs.{needs}
+use Rattle.rules.specs.Calls.{send}
+use Rattle.words.specs.Try.{_>>=_, _>>_, need}
 use Rattle.judging_endpoints.proofs.send.judge_send.Statement.{statement}
 use Rattle.judging_endpoints.proofs.send.judge_send.Tie as tie
-use Rattle.judging_endpoints.proofs.send.judge_send.Reads as reads
-use Rattle.judging_endpoints.proofs.send.judge_send.Lts as lts
-use Rattle.judging_numbers.proofs.arguments.endpoint_arg.Reads as endpoint-arg-reads
-use Rattle.reading.proofs.endpoints.count_at.Reads as count-at-reads
-use Rattle.words.proofs.answers.why_slot.Reads as why-slot-reads
-use Rattle.words.proofs.fields.number_in_word.Reads as number-in-word-reads
 
--- src/send.rt:18:32
 number-in-word-requires : tie.Need-number-in-word-requires
 number-in-word-requires c κs = search needs
 
--- src/send.rt:18:9
 endpoint-arg-requires : tie.Need-endpoint-arg-requires
 endpoint-arg-requires c κs = search needs
 
--- src/send.rt:19:27
 enum-known-a : tie.Need-enum-known-a
 enum-known-a c = search needs
 
--- src/send.rt:20:30
 enum-told : tie.Need-enum-told
 enum-told c = search needs
 
--- src/send.rt:20:30
 why-slot-requires : tie.Need-why-slot-requires
 why-slot-requires c κs = search needs
 
--- src/send.rt:20:9
 returns : tie.Need-returns
 unfolding send _>>=_ _>>_ need
 returns c = rw (c .why-slot .ensures, ← (rw (c .before .before .before .before .number-in-word .ensures) at (c .before .before .before .endpoint-arg .ensures)), c .before .enum-told .given .1)
 
--- src/send.rt:22:9
 count-at-requires : tie.Need-count-at-requires
 count-at-requires c κs = search needs
 
--- src/send.rt:25:70
 add-t11 : tie.Need-add-t11
 add-t11 c = search needs
 
--- src/send.rt:25:9
 returns-2 : tie.Need-returns-2
 unfolding send _>>=_ _>>_ need
 returns-2 c = rw (← (rw (c .before .before .before .before .before .before .number-in-word .ensures) at (c .before .before .before .before .before .endpoint-arg .ensures)), c .before .before .before .a .given .1, ← c .before .count-at .ensures, lt-ltb _ _ (c .if1 .taken))
 
--- src/send.rt:15:1
 returns-3 : tie.Need-returns-3
 unfolding send _>>=_ _>>_ need
 returns-3 c = rw (← (rw (c .before .before .before .before .before .before .number-in-word .ensures) at (c .before .before .before .before .before .endpoint-arg .ensures)), c .before .before .before .a .given .1, ← c .before .count-at .ensures, le-ltb _ _ (c .if1 .left))
