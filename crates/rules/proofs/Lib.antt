@@ -3,3 +3,4 @@ pub mod Facts
 pub mod Clock
 pub mod Held
 pub mod Lift
+pub mod Found

@@ -1,0 +1,10 @@
+pub mod Tests
+pub mod Starts
+pub mod Words
+pub mod Runs
+pub mod NoteWords
+pub mod PositionWords
+pub mod PlaceWords
+pub mod ObjectWords
+pub mod SlotParts
+pub mod Whole

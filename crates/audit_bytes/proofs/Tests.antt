@@ -1,0 +1,49 @@
+-- More laws of tests: both of three, the first number apart, and tests that agree below a number.
+use mathlib.Core.Bool.{Bool, false, true}
+use mathlib.Core.Path.{refl, sym, _∙_, _≡_}
+use Prim.Native.Nat.{_<_, suc, zero, ℕ}
+use native.Mathlib.Omega.{arith}
+use lib.Dec.{eqb, ltb}
+use borrow.Author.Tests.{eq-eqb, eqb-true, lt-ltb, ltb-true}
+use Rattle.words.proofs.Tests.{all-at, all-of, and-both, and-left, and-right, iff}
+use Rattle.words.specs.Tests.{_&_, allBelow}
+
+pub and-assoc : (a b c : Bool) → ((a & b) & c) ≡ (a & (b & c))
+unfolding _&_
+and-assoc true b c = refl
+and-assoc false b c = refl
+
+pub and-swap : (a b c : Bool) → (a & (b & c)) ≡ (b & (c & a))
+unfolding _&_
+and-swap true true true = refl
+and-swap true true false = refl
+and-swap true false c = refl
+and-swap false true true = refl
+and-swap false true false = refl
+and-swap false false c = refl
+
+pub all-agree : (n : ℕ) (p q : ℕ → Bool) → ((k : ℕ) → k < n → p k ≡ q k) → allBelow n p ≡ allBelow n q
+all-agree n p q f =
+    iff _ _ (λ h. all-of n q (λ k l. sym (f k l) ∙ all-at n p h k l)) (λ h. all-of n p (λ k l. f k l ∙ all-at n q h k l))
+
+pub all-front : (n : ℕ) (p : ℕ → Bool) → allBelow (suc n) p ≡ (p 0 & allBelow n (λ k. p (suc k)))
+all-front n p =
+    iff _ _
+    (λ h. and-both _ _ (all-at (suc n) p h 0 (omega arith)) (all-of n _ (λ k l. all-at (suc n) p h (suc k) (omega arith))))
+    (λ h. all-of (suc n) p (λ k l. pick k l (and-left _ _ h) (and-right _ _ h)))
+  where
+    pick : (k : ℕ) → k < suc n → p 0 ≡ true → allBelow n (λ i. p (suc i)) ≡ true → p k ≡ true
+    pick zero l a b = a
+    pick (suc k) l a b = all-at n _ b k (omega arith)
+
+-- ---- tests of numbers that pass together
+pub eqb-ltb : (w v n : ℕ) → (w ≡ v → w < n) → (w < n → w ≡ v) → eqb w v ≡ ltb w n
+eqb-ltb w v n f g = iff _ _ (λ h. lt-ltb w n (f (eqb-true w v h))) (λ h. eq-eqb w v (g (ltb-true w n h)))
+
+pub eqb-self : (w : ℕ) → eqb w w ≡ true
+eqb-self w = eq-eqb w w refl
+
+pub and-end : (a b : Bool) → b ≡ true → (a & b) ≡ a
+unfolding _&_
+and-end true b h = h
+and-end false b h = refl

@@ -1,0 +1,46 @@
+// Each object's slots follow its first one, and each later slot names the first: one pass over the notes.
+ghost use mathlib.Core.Path.{_≡_};
+ghost use Rattle.rules.specs.WellFormed.{apart};
+ghost use Rattle.state.specs.Layout.{goesOn};
+ghost use Rattle.state.specs.Read.{read};
+ghost use Rattle.state.specs.State.{objAt};
+use crate::sizes::size_at;
+use reading::notes::argument_byte;
+use reading::notes::tag_byte;
+use words::numbers::Slot;
+
+// Whether the object that stands at `first` goes on in slot k.
+fn goes_on(s: &[u8], first: Slot, k: Slot) -> bool
+    ensures { λ r. ⌜ r ≡ goesOn first (objAt (read (now (s .entry))) k) ⌝ }
+{
+    if tag_byte(s, k) != 1 {
+        return false;
+    }
+    argument_byte(s, k) == first.0
+}
+
+// `owed` slots still belong to the object that stands at `first`.
+pub fn laid_out(s: &[u8]) -> bool
+    ensures { λ r. ⌜ r ≡ apart (read (now (s .entry))) ⌝ }
+{
+    let mut owed: u16 = 0;
+    let mut first: u8 = 0;
+    let mut k: u16 = 0;
+    while k < 256 {
+        if owed == 0 {
+            let n = size_at(s, Slot(k as u8));
+            if n == 0 {
+                return false;
+            }
+            owed = n - 1;
+            first = k as u8;
+        } else {
+            if !goes_on(s, Slot(first), Slot(k as u8)) {
+                return false;
+            }
+            owed -= 1;
+        }
+        k += 1;
+    }
+    owed == 0
+}

@@ -1,0 +1,2 @@
+pub mod ChildSearch
+pub mod UserSearch

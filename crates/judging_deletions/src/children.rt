@@ -1,0 +1,79 @@
+// REFCNT, "has children": the entries of every table are searched, left at the first child found.
+ghost use mathlib.Core.Path.{_≡_};
+ghost use Prim.Native.Nat.{_*_, _<_, _≤_};
+ghost use lib.ListN.{drop, take};
+ghost use Rattle.words.specs.Fields.{slot};
+ghost use Rattle.words.specs.Sizes.{entrySize, slotCount, slotSize, slotsFor};
+ghost use Rattle.state.specs.Read.{placeOf, read};
+ghost use Rattle.state.specs.State.{placeNumber};
+ghost use Rattle.rules.specs.Places.{hasChildren, isChildOf};
+use reading::bytes::slots_from;
+use reading::places::place_of;
+use reading::tables::entries_in;
+use words::actions::Spot;
+use words::capabilities::Origin;
+use words::capabilities::Place;
+use words::numbers::Slot;
+
+// The number of a place, by which a child names its parent; as wide as the sum may be, since a place is any word.
+fn place_number(p: Spot) -> u64
+    ensures { λ r. ⌜ r ≡ placeNumber p ⌝ }
+{
+    let t = p.table;
+    2 * (t.0 as u64) + (p.entry as u64)
+}
+
+fn is_child_of(n: u64, x: Place) -> bool
+    ensures { λ r. ⌜ r ≡ isChildOf n x ⌝ }
+{
+    let Place::Holds(c) = x else {
+        return false;
+    };
+    let o = c.origin;
+    let Origin::Under(q) = o else {
+        return false;
+    };
+    q as u64 == n
+}
+
+pub fn slot_numbered(k: u32) -> Slot
+    requires { ⌜ k < slotCount ⌝ }
+    ensures { λ r. ⌜ r ≡ slot k ⌝ }
+{
+    Slot(k as u8)
+}
+
+// "hands on just its slots": those of a table with so many entries.
+fn table_slots(s: &[u8], t: Slot, entries: u32) -> &[u8]
+    requires { ⌜ entries ≤ 255 ⌝ }
+    ensures { λ r. ⌜ now r ≡ take (slotSize * slotsFor (entrySize * entries)) (drop (slotSize * t .0) (now (s .entry))) ⌝ }
+{
+    slots_from(s, t, ((32 * entries + 63) / 64) as u16)
+}
+
+// Entry e of the table whose slots are the part.
+fn is_child(part: &[u8], e: u32, n: u64) -> bool
+    requires { ⌜ e ≤ 255 ⌝ }
+    ensures { λ r. ⌜ r ≡ isChildOf n (placeOf (now (part .entry)) (entrySize * e)) ⌝ }
+{
+    is_child_of(n, place_of(part, 32 * (e as usize)))
+}
+
+pub fn has_children(s: &[u8], p: Spot) -> bool
+    ensures { λ r. ⌜ r ≡ hasChildren (read (now (s .entry))) p ⌝ }
+{
+    let n = place_number(p);
+    let mut found = false;
+    'search: for k in 0..256 {
+        let t = slot_numbered(k);
+        let entries = entries_in(s, t);
+        let part = table_slots(s, t, entries);
+        for e in 0..entries {
+            if is_child(part, e, n) {
+                found = true;
+                break 'search;
+            }
+        }
+    }
+    found
+}
