@@ -1,0 +1,6 @@
+pub mod Chain
+pub mod Fuel
+pub mod Codes
+pub mod Walk
+pub mod Entry
+pub mod Table

@@ -1,0 +1,32 @@
+// The entries of a table as the check of a state walks them: the table's own part of the state, and words that are read where
+// they are known to lie, so that no read is tested again.
+ghost use mathlib.Core.Path.{_≡_};
+ghost use Prim.Native.Nat.{_+_, _*_, _≤_};
+ghost use lib.ListN.{length, take, drop};
+ghost use Rattle.words.specs.Sizes.{slotSize, entrySize, placeCount, slotsFor};
+ghost use Rattle.state.specs.Read.{wordAt};
+use reading::bytes::slots_from;
+use words::numbers::Slot;
+
+// Four bytes, the lowest first.
+fn joined(a: u8, b: u8, c: u8, d: u8) -> u32
+    ensures { λ r. ⌜ r ≡ Rattle.state.specs.Read.joined a b c d ⌝ }
+{
+    (a as u32) + (b as u32) * 256 + (c as u32) * 65536 + (d as u32) * 16777216
+}
+
+// A word where the part has it.
+pub fn word_in(s: &[u8], at: usize) -> u32
+    requires { ⌜ at + 4 ≤ length (now s) ⌝ }
+    ensures { λ r. ⌜ r ≡ wordAt (now (s .entry)) at ⌝ }
+{
+    joined(s[at], s[at + 1], s[at + 2], s[at + 3])
+}
+
+// The slots of the table in slot t, which has n entries: "hands on just its slots, a part from the middle of the lent state".
+pub fn table_slots(s: &[u8], t: Slot, n: u32) -> &[u8]
+    requires { ⌜ n ≤ placeCount ⌝ }
+    ensures { λ r. ⌜ now r ≡ take (slotSize * slotsFor (entrySize * n)) (drop (slotSize * t .0) (now (s .entry))) ⌝ }
+{
+    slots_from(s, t, ((32 * n + 63) / 64) as u16)
+}

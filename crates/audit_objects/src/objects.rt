@@ -1,0 +1,67 @@
+// Each object by what its note says that it is. Free slots, later slots and endpoints have no field that could be out of range.
+ghost use mathlib.Core.Bool.{true};
+ghost use mathlib.Core.Path.{_≡_};
+ghost use lib.ListN.{length};
+ghost use Rattle.words.specs.Sizes.{stateLength};
+ghost use Rattle.state.specs.Bytes.{tagOf};
+ghost use Rattle.state.specs.Read.{read};
+ghost use Rattle.state.specs.State.{objAt};
+ghost use Rattle.rules.specs.WellFormed.{apart, everyObject, objectOk};
+use crate::directories::directory_ok;
+use reading::directories::shape_at;
+use reading::notes::tag_at;
+use reading::processes::directory_named;
+use reading::processes::table_named;
+use reading::tables::entries_in;
+use words::numbers::Slot;
+
+// "table of 1..64 entries"
+fn table_ok(s: &[u8], k: Slot) -> bool
+    requires { ⌜ tagOf (objAt (read (now s)) k) ≡ 2 ⌝ }
+    ensures { λ r. ⌜ r ≡ objectOk (read (now (s .entry))) k (objAt (read (now (s .entry))) k) ⌝ }
+{
+    let n = entries_in(s, k);
+    if n < 1 {
+        return false;
+    }
+    n <= 64
+}
+
+// "a process names a live table and a live top directory"
+fn process_ok(s: &[u8], k: Slot) -> bool
+    requires { ⌜ tagOf (objAt (read (now s)) k) ≡ 4 ⌝ }
+    ensures { λ r. ⌜ r ≡ objectOk (read (now (s .entry))) k (objAt (read (now (s .entry))) k) ⌝ }
+{
+    if tag_at(s, table_named(s, k)) != 2 {
+        return false;
+    }
+    let g = shape_at(s, directory_named(s, k));
+    g.top
+}
+
+fn object_ok(s: &[u8], k: Slot) -> bool
+    requires { ⌜ (length (now s) ≡ stateLength) × (apart (read (now s)) ≡ true) ⌝ }
+    ensures { λ r. ⌜ r ≡ objectOk (read (now (s .entry))) k (objAt (read (now (s .entry))) k) ⌝ }
+{
+    let tag = tag_at(s, k);
+    match tag {
+        2 => table_ok(s, k),
+        3 => directory_ok(s, k),
+        4 => process_ok(s, k),
+        _ => true,
+    }
+}
+
+pub fn objects_ok(s: &[u8]) -> bool
+    requires { ⌜ (length (now s) ≡ stateLength) × (apart (read (now s)) ≡ true) ⌝ }
+    ensures { λ r. ⌜ r ≡ everyObject (read (now (s .entry))) (objectOk (read (now (s .entry)))) ⌝ }
+{
+    let mut k: usize = 0;
+    while k < 256 {
+        if !object_ok(s, Slot(k as u8)) {
+            return false;
+        }
+        k += 1;
+    }
+    true
+}

@@ -1,0 +1,4 @@
+pub mod Sums
+pub mod Keys
+pub mod Counting
+pub mod Named

@@ -1,0 +1,71 @@
+-- `audit_roots::objects_rooted` meets its contract: each slot is asked in turn.
+use mathlib.Core.Bool.{true}
+use mathlib.Core.Path.{ap, sym, _∙_, _≡_}
+use Prim.Native.Nat.{_-_, ℕ, _≤_}
+use native.Mathlib.Numerals.{add-one}
+use native.Mathlib.Omega.{arith}
+use borrow.Author.Needs.{needs}
+use borrow.Author.Tests.{not-false, not-true}
+use denote.Ref.{now}
+use Rattle.rules.specs.WellFormed.{everyObject, oneRoot}
+use Rattle.state.specs.Read.{read}
+use Rattle.state.specs.State.{objAt}
+use Rattle.words.proofs.Tests.{all-more, all-not, all-zero}
+use Rattle.words.specs.Fields.{slot}
+use Rattle.words.specs.Tests.{allBelow}
+use Rattle.audit_roots.proofs.objects_rooted.Statement.{statement}
+use Rattle.audit_roots.proofs.objects_rooted.Tie as tie
+
+abbrev Inv-loop : tie.InvT-loop
+Inv-loop s counts k₀ k = (k ≤ 256) × (allBelow k (λ i. oneRoot (read s) (slot i) (objAt (read s) (slot i))) ≡ true)
+
+abbrev μ-loop : tie.MeasureT-loop
+μ-loop s counts k₀ k = 256 - k
+
+loop-holds : tie.Need-loop-holds Inv-loop μ-loop
+loop-holds c = (search needs, all-zero _)
+
+cast-t5 : tie.Need-cast-t5 Inv-loop μ-loop
+cast-t5 c = search needs
+
+one-root-requires : tie.Need-one-root-requires Inv-loop μ-loop
+one-root-requires c κs = search needs
+
+returns : tie.Need-returns Inv-loop μ-loop
+unfolding everyObject
+returns c = let a = c .before .before .before .before .before .args in
+    let l = c .before .before .before .loop in
+    sym (all-not 256 (λ i. oneRoot (read (now (a .s))) (slot i) (objAt (read (now (a .s))) (slot i))) (l .k) (c .before .before .loop-test .taken) (sym (c .before .one-root .ensures) ∙ not-true _ (c .if1 .taken)))
+
+add-k : tie.Need-add-k Inv-loop μ-loop
+add-k c = search needs
+
+loop-less : tie.Need-loop-less Inv-loop μ-loop
+loop-less c = search needs
+
+loop-again : tie.Need-loop-again Inv-loop μ-loop
+loop-again c = let a = c .before .before .before .before .before .args in
+    let l = c .before .before .before .loop in
+    (search needs, rw (add-one (l .k)) (all-more (l .k) (λ i. oneRoot (read (now (a .s))) (slot i) (objAt (read (now (a .s))) (slot i))) (l .inv .1) (sym (c .before .one-root .ensures) ∙ not-false _ (c .if1 .left))))
+
+returns-2 : tie.Need-returns-2 Inv-loop μ-loop
+unfolding everyObject
+returns-2 c = let a = c .before .before .before .args in
+    let l = c .before .loop in
+    let done : l .k ≡ 256 = omega arith in
+    sym (ap (λ (m : ℕ). allBelow m (λ i. oneRoot (read (now (a .s))) (slot i) (objAt (read (now (a .s))) (slot i)))) (sym done) ∙ l .inv .1)
+
+pub objects-rooted-spec : {M : Type 1} → statement M
+objects-rooted-spec =
+    tie.close
+    (tie.spec
+    Inv-loop
+    μ-loop
+    loop-holds
+    cast-t5
+    one-root-requires
+    returns
+    add-k
+    loop-less
+    loop-again
+    returns-2)

@@ -1,0 +1,129 @@
+// "each object, and the kinds memory and function, has exactly one root": the roots are counted, under the object's first slot
+// or under the kind, and each count must be 1.
+ghost use mathlib.Core.Path.{_≡_};
+ghost use Prim.Native.Nat.{_+_, _*_, _<_, _≤_};
+ghost use lib.Dec.{eqb};
+ghost use lib.ListN.{length};
+ghost use Rattle.words.specs.Fields.{slot};
+ghost use Rattle.words.specs.Sizes.{slotCount, stateLength, entrySize, placeCount};
+ghost use Rattle.words.specs.Tests.{allBelow};
+ghost use Rattle.state.specs.Layout.{Laid};
+ghost use Rattle.state.specs.Read.{read, placeOf};
+ghost use Rattle.state.specs.State.{objAt, placeAt, entriesIn};
+ghost use Rattle.rules.specs.WellFormed.{one, oneRoot, everyObject, rooted};
+ghost use Rattle.audit_roots.specs.Roots.{rootKey, rootsAmong, rootsBelow, Counts, UpTo, mostRoots, more, Ready};
+use audit_entries::table_slots;
+use audit_entries::word_in;
+use reading::notes::tag_at;
+use reading::tables::entries_in;
+use words::numbers::Slot;
+
+// The number under which the entry at a byte of a table's part is counted: its object's first slot, 256 for memory, 257 for
+// function; 258 where it is no root.
+fn root_key(p: &[u8], at: usize) -> usize
+    requires { ⌜ at + 32 ≤ length (now p) ⌝ }
+    ensures { λ r. ⌜ r ≡ rootKey (placeOf (now (p .entry)) at) ⌝ }
+{
+    if word_in(p, at + 28) != 0 {
+        return 258;
+    }
+    let kind = word_in(p, at);
+    if kind == 0 {
+        return 258;
+    }
+    if kind == 3 {
+        return 256;
+    }
+    if kind == 6 {
+        return 257;
+    }
+    if 6 < kind {
+        return 258;
+    }
+    p[at + 16] as usize
+}
+
+fn count_entry(p: &[u8], at: usize, counts: &mut [u32; 258])
+    requires { ⌜ (at + 32 ≤ length (now p)) × UpTo (mostRoots + placeCount) (now counts) ⌝ }
+    ensures { λ r. ⌜ Counts (now (counts .exit)) (more (now (counts .entry)) (λ k. one (eqb (rootKey (placeOf (now (p .entry)) at)) k))) ⌝ }
+{
+    let k = root_key(p, at);
+    if k < 258 {
+        counts[k] += 1;
+    }
+}
+
+// The roots among the n entries of a table, in its own part of the state.
+fn count_table(p: &[u8], n: u32, counts: &mut [u32; 258])
+    requires { ⌜ (entrySize * n ≤ length (now p)) × (n ≤ placeCount) × UpTo mostRoots (now counts) ⌝ }
+    ensures { λ r. ⌜ Counts (now (counts .exit)) (more (now (counts .entry)) (rootsAmong (λ e. placeOf (now (p .entry)) (entrySize * e)) n)) ⌝ }
+{
+    let mut e: u32 = 0;
+    while e < n {
+        count_entry(p, 32 * (e as usize), counts);
+        e += 1;
+    }
+}
+
+fn count_slot(s: &[u8], t: Slot, counts: &mut [u32; 258])
+    requires { ⌜ (length (now s) ≡ stateLength) × Laid (read (now s)) × UpTo mostRoots (now counts) ⌝ }
+    ensures { λ r. ⌜ Counts (now (counts .exit)) (more (now (counts .entry)) (rootsAmong (placeAt (read (now (s .entry))) t) (entriesIn (read (now (s .entry))) t))) ⌝ }
+{
+    let n = entries_in(s, t);
+    if n == 0 {
+        return;
+    }
+    count_table(table_slots(s, t, n), n, counts);
+}
+
+// The roots in every table.
+fn count_all(s: &[u8], counts: &mut [u32; 258])
+    requires { ⌜ (length (now s) ≡ stateLength) × Laid (read (now s)) × Counts (now counts) (rootsBelow (read (now s)) 0) ⌝ }
+    ensures { λ r. ⌜ Counts (now (counts .exit)) (rootsBelow (read (now (s .entry))) slotCount) ⌝ }
+{
+    let mut k: u32 = 0;
+    while k < 256 {
+        count_slot(s, Slot(k as u8), counts);
+        k += 1;
+    }
+}
+
+// What stands in a slot has one root; a free slot and a later slot of a larger object have none.
+fn one_root(s: &[u8], counts: &[u32; 258], k: Slot) -> bool
+    requires { ⌜ Ready (now s) × Counts (now counts) (rootsBelow (read (now s)) slotCount) ⌝ }
+    ensures { λ r. ⌜ r ≡ oneRoot (read (now (s .entry))) k (objAt (read (now (s .entry))) k) ⌝ }
+{
+    if tag_at(s, k) < 2 {
+        return true;
+    }
+    counts[k.0 as usize] == 1
+}
+
+fn objects_rooted(s: &[u8], counts: &[u32; 258]) -> bool
+    requires { ⌜ Ready (now s) × Counts (now counts) (rootsBelow (read (now s)) slotCount) ⌝ }
+    ensures { λ r. ⌜ r ≡ everyObject (read (now (s .entry))) (oneRoot (read (now (s .entry)))) ⌝ }
+{
+    let mut k: u32 = 0;
+    while k < 256 {
+        if !one_root(s, counts, Slot(k as u8)) {
+            return false;
+        }
+        k += 1;
+    }
+    true
+}
+
+pub fn roots_ok(s: &[u8]) -> bool
+    requires { ⌜ Ready (now s) ⌝ }
+    ensures { λ r. ⌜ r ≡ rooted (read (now (s .entry))) ⌝ }
+{
+    let mut counts = [0u32; 258];
+    count_all(s, &mut counts);
+    if !objects_rooted(s, &counts) {
+        return false;
+    }
+    if counts[256] != 1 {
+        return false;
+    }
+    counts[257] == 1
+}
