@@ -42,14 +42,14 @@ entries-in-requires c κs = search needs
 
 table-slots-requires : tie.Need-table-slots-requires Inv-loop μ-loop Inv-search μ-search
 table-slots-requires c κs = let a = c .before .before .before .before .before .before .args in let s = c .before .before .before .search in let n = c .before .before .before .before .place-number in let t = c .before .slot-numbered in
-    omega (arith, c .entries-in .ensures, few-entries (now (a .s)) (λ i. omega (arith, c .before .before .before .before .before .shared-slice-known .given i)) (s .k) (t .result) (c .before .before .search-test .taken) (t .ensures))
+    omega (arith, c .entries-in .ensures, few-entries (now (a .s)) (λ i. omega (arith, c .before .before .before .before .before .shared-slice-known .given i)) (s .k) (t .result) (omega arith) (t .ensures))
 
 loop-holds : tie.Need-loop-holds Inv-loop μ-loop Inv-search μ-search
 loop-holds c = (omega arith, c .before .before .before .before .search .inv .1, any-zero _)
 
 is-child-requires : tie.Need-is-child-requires Inv-loop μ-loop Inv-search μ-search
 is-child-requires c κs = let a = c .before .before .before .before .before .before .before .before .before .args in let s = c .before .before .before .before .before .before .search in let n = c .before .before .before .before .before .before .before .place-number in let t = c .before .before .before .before .slot-numbered in
-    omega (arith, c .before .before .before .entries-in .ensures, few-entries (now (a .s)) (λ i. omega (arith, c .before .before .before .before .before .before .before .before .shared-slice-known .given i)) (s .k) (t .result) (c .before .before .before .before .before .search-test .taken) (t .ensures))
+    omega (arith, c .before .before .before .entries-in .ensures, few-entries (now (a .s)) (λ i. omega (arith, c .before .before .before .before .before .before .before .before .shared-slice-known .given i)) (s .k) (t .result) (omega arith) (t .ensures))
 
 add-e : tie.Need-add-e Inv-loop μ-loop Inv-search μ-search
 add-e c = omega arith
@@ -59,7 +59,7 @@ loop-less c = omega arith
 
 loop-again : tie.Need-loop-again Inv-loop μ-loop Inv-search μ-search
 loop-again c = let a = c .before .before .before .before .before .before .before .before .before .before .before .args in let s = c .before .before .before .before .before .before .before .before .search in let n = c .before .before .before .before .before .before .before .before .before .place-number in let t = c .before .before .before .before .before .before .slot-numbered in let m = c .before .before .before .before .before .entries-in in let l = c .before .before .before .loop in
-    let here = child-here (now (a .s)) _ (t .result) (s .k) (m .result) (n .result) (l .e) (c .before .before .before .before .before .before .before .search-test .taken) (t .ensures) (m .ensures) (c .before .before .before .before .table-slots .ensures) (c .before .before .loop-test .taken) in
+    let here = child-here (now (a .s)) _ (t .result) (s .k) (m .result) (n .result) (l .e) (omega arith) (t .ensures) (m .ensures) (c .before .before .before .before .table-slots .ensures) (c .before .before .loop-test .taken) in
     (omega arith, l .inv .1, rw add-one (any-more (l .e) (childAt (now (a .s)) (n .result) (s .k)) (l .inv .2) (sym here ∙ sym (c .before .is-child .ensures) ∙ c .if1 .left)))
 
 add-k : tie.Need-add-k Inv-loop μ-loop Inv-search μ-search
@@ -80,9 +80,9 @@ returns c = let a = c .before .before .before .before .args in let s = c .before
 
 returns-2 : tie.Need-returns-2 Inv-loop μ-loop Inv-search μ-search
 returns-2 c = let a = c .before .before .before .before .before .before .before .before .before .before .before .args in let s = c .before .before .before .before .before .before .before .before .search in let n = c .before .before .before .before .before .before .before .before .before .place-number in let t = c .before .before .before .before .before .before .slot-numbered in let m = c .before .before .before .before .before .entries-in in let l = c .before .before .before .loop in
-    let here = child-here (now (a .s)) _ (t .result) (s .k) (m .result) (n .result) (l .e) (c .before .before .before .before .before .before .before .search-test .taken) (t .ensures) (m .ensures) (c .before .before .before .before .table-slots .ensures) (c .before .before .loop-test .taken) in
+    let here = child-here (now (a .s)) _ (t .result) (s .k) (m .result) (n .result) (l .e) (omega arith) (t .ensures) (m .ensures) (c .before .before .before .before .table-slots .ensures) (c .before .before .loop-test .taken) in
     let all = m .ensures ∙ ap (entriesIn (read (now (a .s)))) (t .ensures) in
-    sym (one-found (now (a .s)) (a .p) (n .result) (s .k) (l .e) (n .ensures) (c .before .before .before .before .before .before .before .search-test .taken) (rw all at (c .before .before .loop-test .taken)) (sym here ∙ sym (c .before .is-child .ensures) ∙ c .if1 .taken))
+    sym (one-found (now (a .s)) (a .p) (n .result) (s .k) (l .e) (n .ensures) (omega arith) (rw all at (c .before .before .loop-test .taken)) (sym here ∙ sym (c .before .is-child .ensures) ∙ c .if1 .taken))
 
 pub has-children-spec : {M : Type 1} → statement M
 has-children-spec =

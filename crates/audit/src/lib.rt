@@ -1,0 +1,34 @@
+// The check of a state: whether a buffer holds a well-formed one. It asks nothing of the buffer; each part of it asks for what
+// the parts before it have shown.
+ghost use mathlib.Core.Path.{_≡_};
+ghost use Rattle.rules.specs.Buffer.{sound};
+use audit_bytes::canonical::canonical;
+use audit_chains::chains_ok;
+use audit_layout::layout::laid_out;
+use audit_objects::objects::objects_ok;
+use audit_rights::rights::rights_ok;
+use audit_roots::roots_ok;
+
+pub fn well_formed(s: &[u8]) -> bool
+    ensures { λ r. ⌜ r ≡ sound (now (s .entry)) ⌝ }
+{
+    if s.len() != 17472 {
+        return false;
+    }
+    if !laid_out(s) {
+        return false;
+    }
+    if !canonical(s) {
+        return false;
+    }
+    if !objects_ok(s) {
+        return false;
+    }
+    if !rights_ok(s) {
+        return false;
+    }
+    if !roots_ok(s) {
+        return false;
+    }
+    chains_ok(s)
+}

@@ -1,0 +1,4 @@
+pub mod Standing
+pub mod Ready
+pub mod Sizes
+pub mod Laws
