@@ -1,30 +1,28 @@
+-- `kernel::states::kernel_boot` meets its contract: by the length, and what `store_boot` leaves.
+use borrow.Author.Tests.{eq-eqb, ne-eqb}
 use borrow.Author.Needs.{needs}
+use mir.Syntax.{w32}
+use mir.ValLaws.{toZ-ofZ}
+use Rattle.rules.specs.Buffer.{bootOutcome}
 use Rattle.kernel.proofs.states.kernel_boot.Statement.{statement}
 use Rattle.kernel.proofs.states.kernel_boot.Tie as tie
-use Rattle.kernel.proofs.states.kernel_boot.Reads as reads
-use Rattle.kernel.proofs.states.kernel_boot.Lts as lts
-use Rattle.boot.proofs.store_boot.Reads as store-boot-reads
-use Rattle.words.proofs.refusals.refusal_number.Reads as refusal-number-reads
 
--- src/states.rt:17:9
 refusal-number-requires : tie.Need-refusal-number-requires
 refusal-number-requires c κs = search needs
 
--- src/states.rt:17:9
 returns : tie.Need-returns
-returns c = ?
+unfolding bootOutcome
+returns c = rw (toZ-ofZ w32 (c .refusal-number .result) (record { sfits = c .refusal-number .ok }), c .refusal-number .ensures, ne-eqb _ _ (c .before .if1 .taken))
 
--- src/states.rt:19:5
 store-boot-requires : tie.Need-store-boot-requires
 store-boot-requires c κs = search needs
 
--- src/states.rt:12:1
 same-length : tie.Need-same-length
 same-length c = search needs
 
--- src/states.rt:12:1
 returns-2 : tie.Need-returns-2
-returns-2 c = ?
+unfolding bootOutcome
+returns-2 c = rw (eq-eqb _ _ (c .before .before .before .before .if1 .left), c .before .before .store-boot .ensures)
 
 pub kernel-boot-spec : {M : Type 1} → statement M
 kernel-boot-spec =
