@@ -1,0 +1,3 @@
+pub mod Names
+pub mod Mapping
+pub mod Hanging
