@@ -67,7 +67,7 @@ fn main() {
     say(b"the last spare byte set: ");
     damaged(&mut s, 17471, 1);
     say(b"an unused byte of the process set: ");
-    damaged(&mut s, 1216, 1);
+    damaged(&mut s, 1160, 1);
     say(b"the last slot said to hold an endpoint: ");
     damaged(&mut s, 17404, 5);
     say(b"the table's root with a flag fewer: ");
