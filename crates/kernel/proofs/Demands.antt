@@ -1,0 +1,46 @@
+-- Demand 1: every answer of a call is listed, and a refusal leaves every byte as it was. Tightness: each statement determines its result.
+
+outcome-listed : (b : List ℕ) (caller : ℕ) (w : Words) → sound b ≡ true → (r : Try Action) → plan (read b) caller w ≡ r → Listed (outcome b r .reply)
+outcome-listed b caller w s (no! r) e = refusal r refl
+outcome-listed b caller w s (ok! a) e = success (Rule.success a) refl (answer-fits (read b) a (ready-plan b caller w a s e))
+
+-- for all callers, words and buffers
+pub call-listed : (b : List ℕ) (caller : ℕ) (w : Words) → Listed (callOutcome b caller w .reply)
+unfolding callOutcome
+call-listed b caller w = go (sound b) refl
+  where
+    go : (t : Bool) → sound b ≡ t → Listed (choose t (outcome b (plan (read b) caller w)) (refused b) .reply)
+    go true s = outcome-listed b caller w s (plan (read b) caller w) refl
+    go false s = refusal BadState refl
+
+-- a negative answer leaves the buffer equal
+outcome-stays : (b : List ℕ) (r : Try Action) (n : ℕ) → outcome b r .reply ≡ negsuc n → outcome b r .buffer ≡ b
+outcome-stays b (no! r) n h = refl
+outcome-stays b (ok! a) n h = absurd (let z : _≡_ {A = ℕ} 0 1 = cc in omega arith)
+
+pub refusal-stays : (b : List ℕ) (caller : ℕ) (w : Words) (n : ℕ) → callOutcome b caller w .reply ≡ negsuc n → callOutcome b caller w .buffer ≡ b
+unfolding callOutcome
+refusal-stays b caller w n = go (sound b)
+  where
+    go : (t : Bool) → choose t (outcome b (plan (read b) caller w)) (refused b) .reply ≡ negsuc n → choose t (outcome b (plan (read b) caller w)) (refused b) .buffer ≡ b
+    go true h = outcome-stays b (plan (read b) caller w) n h
+    go false h = refl
+
+-- ---- tightness
+module _ (b : List ℕ) where
+  pub boot-determined : Determined (λ o. o ≡ bootOutcome b)
+  boot-determined x y p q = p ∙ sym q
+
+  pub tick-determined : Determined (λ o. o ≡ tickOutcome b)
+  tick-determined x y p q = p ∙ sym q
+
+  pub call-determined : (caller : ℕ) (w : Words) → Determined (λ o. o ≡ callOutcome b caller w)
+  call-determined caller w x y p q = p ∙ sym q
+
+  pub check-determined : (x y : Bool) → x ≡ sound b → y ≡ sound b → x ≡ y
+  check-determined x y p q = p ∙ sym q
+
+  -- "the check says yes exactly when −19 would not be given": by a tick, and by any call
+  pub check-ticks : (sound b ≡ true → tickOutcome b .reply ≡ pos 0) × (sound b ≡ false → tickOutcome b .reply ≡ number BadState)
+  unfolding tickOutcome
+  check-ticks = (λ h. rw h, λ h. rw h)

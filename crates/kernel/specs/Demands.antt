@@ -1,0 +1,10 @@
+-- Demand 1 as statements on a call's outcome, and tightness: what a statement determines.
+
+-- "ends with one listed answer": "Success is 0, or a non-negative count", in a signed word; else one of the numbers −1 to −19
+pub data Listed (z : ℤ) : Type 0 where
+  success : (n : ℕ) → z ≡ pos n → n < 2 ^ 31 → Listed z
+  refusal : (r : Refusal) → z ≡ number r → Listed z
+
+-- two results that satisfy a statement about the answer and the buffer are equal
+abbrev pub Determined : (Outcome → Type 0) → Type 0
+Determined P = (x y : Outcome) → P x → P y → x ≡ y
