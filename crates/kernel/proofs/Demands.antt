@@ -1,4 +1,20 @@
 -- Demand 1: every answer of a call is listed, and a refusal leaves every byte as it was. Tightness: each statement determines its result.
+use mathlib.Core.Bool.{Bool, false, true}
+use mathlib.Core.List.{List}
+use mathlib.Core.Path.{_≡_, refl, sym, _∙_}
+use Prim.Native.Nat.{ℕ}
+use native.Mathlib.Omega.{arith}
+use lib.IntN.{negsuc, pos}
+use Rattle.committing.proofs.Ready.{answer-fits, ready-plan}
+use Rattle.rules.specs.Buffer.{bootOutcome, callOutcome, outcome, refused, sound, tickOutcome}
+use Rattle.rules.specs.Calls.{plan}
+use Rattle.state.specs.Read.{read}
+use Rattle.words.specs.Refusals.{number}
+use Rattle.words.specs.Tests.{choose}
+use Rattle.words.specs.Try.{Try, no!, ok!}
+use Rattle.kernel.specs.Demands.{Determined, Listed, refusal, success}
+use Rattle.kernel.specs.Names.{Action, BadState, Words}
+use Rattle.rules.specs.Commit as Rule
 
 outcome-listed : (b : List ℕ) (caller : ℕ) (w : Words) → sound b ≡ true → (r : Try Action) → plan (read b) caller w ≡ r → Listed (outcome b r .reply)
 outcome-listed b caller w s (no! r) e = refusal r refl

@@ -1,2 +1,3 @@
-// The kernel as its users call it. Each function takes any buffer, and refuses what it must; none has a condition.
+// The kernel as its users call it. Each function takes any buffer and any words, and refuses what it must; none has a condition.
+pub mod calls;
 pub mod states;

@@ -1,41 +1,29 @@
 -- `judging::judge` meets its contract: by the caller's table, then the call.
+use borrow.Author.Needs.{needs}
 use Rattle.words.specs.Try.{_>>=_}
 use Rattle.rules.specs.Calls.{plan}
-use borrow.Author.Needs.{needs}
 use Rattle.judging.proofs.judge.Statement.{statement}
 use Rattle.judging.proofs.judge.Tie as tie
-use Rattle.judging.proofs.judge.Reads as reads
-use Rattle.judging.proofs.judge.Lts as lts
-use Rattle.judging.proofs.judge_call.Reads as judge-call-reads
-use Rattle.judging_numbers.proofs.callers.caller_table.Reads as caller-table-reads
-use Rattle.words.proofs.answers.why_slot.Reads as why-slot-reads
 
--- src/lib.rt:69:9
 caller-table-requires : tie.Need-caller-table-requires
 caller-table-requires c κs = search needs
 
--- src/lib.rt:70:27
 enum-known-a : tie.Need-enum-known-a
 enum-known-a c = search needs
 
--- src/lib.rt:71:30
 enum-told : tie.Need-enum-told
 enum-told c = search needs
 
--- src/lib.rt:71:30
 why-slot-requires : tie.Need-why-slot-requires
 why-slot-requires c κs = search needs
 
--- src/lib.rt:71:9
 returns : tie.Need-returns
 unfolding plan _>>=_
 returns c = rw (c .why-slot .ensures, ← c .before .before .before .caller-table .ensures, c .before .enum-told .given .1)
 
--- src/lib.rt:73:5
 judge-call-requires : tie.Need-judge-call-requires
 judge-call-requires c κs = search needs
 
--- src/lib.rt:65:1
 returns-2 : tie.Need-returns-2
 unfolding plan _>>=_
 returns-2 c = rw (← c .before .before .before .before .caller-table .ensures, c .before .before .a .given .1) (c .judge-call .ensures)

@@ -1,198 +1,133 @@
 -- `judging::judge_call` meets its contract: in each arm the call's number picks the rule; in the last there is none.
 use mathlib.Core.Path.{refl}
-use Rattle.judging.proofs.Numbered.{no-call}
 use borrow.Author.Needs.{needs}
+use Rattle.judging.proofs.Numbered.{no-call}
 use Rattle.judging.proofs.judge_call.Statement.{statement}
 use Rattle.judging.proofs.judge_call.Tie as tie
-use Rattle.judging.proofs.judge_call.Reads as reads
-use Rattle.judging.proofs.judge_call.Lts as lts
-use Rattle.judging_directories.proofs.create_directory.judge_create_directory.Reads as judge-create-directory-reads
-use Rattle.judging_directories.proofs.delete_directory.judge_delete_directory.Reads as judge-delete-directory-reads
-use Rattle.judging_endpoints.proofs.functions.judge_function.Reads as judge-function-reads
-use Rattle.judging_endpoints.proofs.receive.judge_receive.Reads as judge-receive-reads
-use Rattle.judging_endpoints.proofs.send.judge_send.Reads as judge-send-reads
-use Rattle.judging_pages.proofs.construct.judge_construct.Reads as judge-construct-reads
-use Rattle.judging_pages.proofs.destruct.judge_destruct.Reads as judge-destruct-reads
-use Rattle.judging_pages.proofs.map_page.judge_map_page.Reads as judge-map-page-reads
-use Rattle.judging_pages.proofs.remove_page.judge_remove_page.Reads as judge-remove-page-reads
-use Rattle.judging_processes.proofs.changes.judge_change_directory.Reads as judge-change-directory-reads
-use Rattle.judging_processes.proofs.changes.judge_change_table.Reads as judge-change-table-reads
-use Rattle.judging_processes.proofs.endpoints.judge_create_endpoint.Reads as judge-create-endpoint-reads
-use Rattle.judging_processes.proofs.endpoints.judge_delete_endpoint.Reads as judge-delete-endpoint-reads
-use Rattle.judging_processes.proofs.processes.judge_create_process.Reads as judge-create-process-reads
-use Rattle.judging_processes.proofs.processes.judge_delete_process.Reads as judge-delete-process-reads
-use Rattle.judging_tables.proofs.create.judge_create_table.Reads as judge-create-table-reads
-use Rattle.judging_tables.proofs.delegate.judge_delegate.Reads as judge-delegate-reads
-use Rattle.judging_tables.proofs.delete.judge_delete_table.Reads as judge-delete-table-reads
-use Rattle.judging_tables.proofs.freeze.judge_freeze.Reads as judge-freeze-reads
-use Rattle.judging_tables.proofs.remove.judge_remove.Reads as judge-remove-reads
-use Rattle.words.proofs.fields.call_number.Reads as call-number-reads
 
--- src/lib.rt:38:9
 call-number-requires : tie.Need-call-number-requires
 call-number-requires c κs = search needs
 
--- src/lib.rt:40:14
 judge-create-table-requires : tie.Need-judge-create-table-requires
 judge-create-table-requires c κs = search needs
 
--- src/lib.rt:41:14
 judge-delete-table-requires : tie.Need-judge-delete-table-requires
 judge-delete-table-requires c κs = search needs
 
--- src/lib.rt:42:14
 judge-delegate-requires : tie.Need-judge-delegate-requires
 judge-delegate-requires c κs = search needs
 
--- src/lib.rt:43:14
 judge-freeze-requires : tie.Need-judge-freeze-requires
 judge-freeze-requires c κs = search needs
 
--- src/lib.rt:44:14
 judge-remove-requires : tie.Need-judge-remove-requires
 judge-remove-requires c κs = search needs
 
--- src/lib.rt:45:14
 judge-create-directory-requires : tie.Need-judge-create-directory-requires
 judge-create-directory-requires c κs = search needs
 
--- src/lib.rt:46:14
 judge-delete-directory-requires : tie.Need-judge-delete-directory-requires
 judge-delete-directory-requires c κs = search needs
 
--- src/lib.rt:47:14
 judge-map-page-requires : tie.Need-judge-map-page-requires
 judge-map-page-requires c κs = search needs
 
--- src/lib.rt:48:14
 judge-remove-page-requires : tie.Need-judge-remove-page-requires
 judge-remove-page-requires c κs = search needs
 
--- src/lib.rt:49:15
 judge-construct-requires : tie.Need-judge-construct-requires
 judge-construct-requires c κs = search needs
 
--- src/lib.rt:50:15
 judge-destruct-requires : tie.Need-judge-destruct-requires
 judge-destruct-requires c κs = search needs
 
--- src/lib.rt:51:15
 judge-create-process-requires : tie.Need-judge-create-process-requires
 judge-create-process-requires c κs = search needs
 
--- src/lib.rt:52:15
 judge-delete-process-requires : tie.Need-judge-delete-process-requires
 judge-delete-process-requires c κs = search needs
 
--- src/lib.rt:53:15
 judge-change-table-requires : tie.Need-judge-change-table-requires
 judge-change-table-requires c κs = search needs
 
--- src/lib.rt:54:15
 judge-change-directory-requires : tie.Need-judge-change-directory-requires
 judge-change-directory-requires c κs = search needs
 
--- src/lib.rt:55:15
 judge-create-endpoint-requires : tie.Need-judge-create-endpoint-requires
 judge-create-endpoint-requires c κs = search needs
 
--- src/lib.rt:56:15
 judge-delete-endpoint-requires : tie.Need-judge-delete-endpoint-requires
 judge-delete-endpoint-requires c κs = search needs
 
--- src/lib.rt:57:15
 judge-send-requires : tie.Need-judge-send-requires
 judge-send-requires c κs = search needs
 
--- src/lib.rt:58:15
 judge-receive-requires : tie.Need-judge-receive-requires
 judge-receive-requires c κs = search needs
 
--- src/lib.rt:59:15
 judge-function-requires : tie.Need-judge-function-requires
 judge-function-requires c κs = search needs
 
--- src/lib.rt:34:1
 returns : tie.Need-returns
 returns c = rw (← c .before .before .call-number .ensures, c .before .match .keys1) (c .judge-create-table .ensures)
 
--- src/lib.rt:34:1
 returns-2 : tie.Need-returns-2
 returns-2 c = rw (← c .before .before .call-number .ensures, c .before .match .keys2) (c .judge-delete-table .ensures)
 
--- src/lib.rt:34:1
 returns-3 : tie.Need-returns-3
 returns-3 c = rw (← c .before .before .call-number .ensures, c .before .match .keys3) (c .judge-delegate .ensures)
 
--- src/lib.rt:34:1
 returns-4 : tie.Need-returns-4
 returns-4 c = rw (← c .before .before .call-number .ensures, c .before .match .keys4) (c .judge-freeze .ensures)
 
--- src/lib.rt:34:1
 returns-5 : tie.Need-returns-5
 returns-5 c = rw (← c .before .before .call-number .ensures, c .before .match .keys5) (c .judge-remove .ensures)
 
--- src/lib.rt:34:1
 returns-6 : tie.Need-returns-6
 returns-6 c = rw (← c .before .before .call-number .ensures, c .before .match .keys6) (c .judge-create-directory .ensures)
 
--- src/lib.rt:34:1
 returns-7 : tie.Need-returns-7
 returns-7 c = rw (← c .before .before .call-number .ensures, c .before .match .keys7) (c .judge-delete-directory .ensures)
 
--- src/lib.rt:34:1
 returns-8 : tie.Need-returns-8
 returns-8 c = rw (← c .before .before .call-number .ensures, c .before .match .keys8) (c .judge-map-page .ensures)
 
--- src/lib.rt:34:1
 returns-9 : tie.Need-returns-9
 returns-9 c = rw (← c .before .before .call-number .ensures, c .before .match .keys9) (c .judge-remove-page .ensures)
 
--- src/lib.rt:34:1
 returns-10 : tie.Need-returns-10
 returns-10 c = rw (← c .before .before .call-number .ensures, c .before .match .keys10) (c .judge-construct .ensures)
 
--- src/lib.rt:34:1
 returns-11 : tie.Need-returns-11
 returns-11 c = rw (← c .before .before .call-number .ensures, c .before .match .keys11) (c .judge-destruct .ensures)
 
--- src/lib.rt:34:1
 returns-12 : tie.Need-returns-12
 returns-12 c = rw (← c .before .before .call-number .ensures, c .before .match .keys12) (c .judge-create-process .ensures)
 
--- src/lib.rt:34:1
 returns-13 : tie.Need-returns-13
 returns-13 c = rw (← c .before .before .call-number .ensures, c .before .match .keys13) (c .judge-delete-process .ensures)
 
--- src/lib.rt:34:1
 returns-14 : tie.Need-returns-14
 returns-14 c = rw (← c .before .before .call-number .ensures, c .before .match .keys14) (c .judge-change-table .ensures)
 
--- src/lib.rt:34:1
 returns-15 : tie.Need-returns-15
 returns-15 c = rw (← c .before .before .call-number .ensures, c .before .match .keys15) (c .judge-change-directory .ensures)
 
--- src/lib.rt:34:1
 returns-16 : tie.Need-returns-16
 returns-16 c = rw (← c .before .before .call-number .ensures, c .before .match .keys16) (c .judge-create-endpoint .ensures)
 
--- src/lib.rt:34:1
 returns-17 : tie.Need-returns-17
 returns-17 c = rw (← c .before .before .call-number .ensures, c .before .match .keys17) (c .judge-delete-endpoint .ensures)
 
--- src/lib.rt:34:1
 returns-18 : tie.Need-returns-18
 returns-18 c = rw (← c .before .before .call-number .ensures, c .before .match .keys18) (c .judge-send .ensures)
 
--- src/lib.rt:34:1
 returns-19 : tie.Need-returns-19
 returns-19 c = rw (← c .before .before .call-number .ensures, c .before .match .keys19) (c .judge-receive .ensures)
 
--- src/lib.rt:34:1
 returns-20 : tie.Need-returns-20
 returns-20 c = rw (← c .before .before .call-number .ensures, c .before .match .keys20) (c .judge-function .ensures)
 
--- src/lib.rt:34:1
 returns-21 : tie.Need-returns-21
 returns-21 c = rw (← c .before .call-number .ensures, no-call (c .before .call-number .result) ((((((((((((((((((((tt, c .match .rest .0 .0 .0 .0 .0 .0 .0 .0 .0 .0 .0 .0 .0 .0 .0 .0 .0 .0 .0 .1), c .match .rest .0 .0 .0 .0 .0 .0 .0 .0 .0 .0 .0 .0 .0 .0 .0 .0 .0 .0 .1), c .match .rest .0 .0 .0 .0 .0 .0 .0 .0 .0 .0 .0 .0 .0 .0 .0 .0 .0 .1), c .match .rest .0 .0 .0 .0 .0 .0 .0 .0 .0 .0 .0 .0 .0 .0 .0 .0 .1), c .match .rest .0 .0 .0 .0 .0 .0 .0 .0 .0 .0 .0 .0 .0 .0 .0 .1), c .match .rest .0 .0 .0 .0 .0 .0 .0 .0 .0 .0 .0 .0 .0 .0 .1), c .match .rest .0 .0 .0 .0 .0 .0 .0 .0 .0 .0 .0 .0 .0 .1), c .match .rest .0 .0 .0 .0 .0 .0 .0 .0 .0 .0 .0 .0 .1), c .match .rest .0 .0 .0 .0 .0 .0 .0 .0 .0 .0 .0 .1), c .match .rest .0 .0 .0 .0 .0 .0 .0 .0 .0 .0 .1), c .match .rest .0 .0 .0 .0 .0 .0 .0 .0 .0 .1), c .match .rest .0 .0 .0 .0 .0 .0 .0 .0 .1), c .match .rest .0 .0 .0 .0 .0 .0 .0 .1), c .match .rest .0 .0 .0 .0 .0 .0 .1), c .match .rest .0 .0 .0 .0 .0 .1), c .match .rest .0 .0 .0 .0 .1), c .match .rest .0 .0 .0 .1), c .match .rest .0 .0 .1), c .match .rest .0 .1), c .match .rest .1)) refl
 
