@@ -28,3 +28,4 @@ pub use Rattle.words.specs.declared.capabilities.Span.{Span}
 pub use Rattle.words.specs.declared.capabilities.Stretch.{Stretch}
 pub use Rattle.words.specs.declared.capabilities.FunctionRange.{FunctionRange}
 pub use Rattle.words.specs.declared.capabilities.Frame.{Frame}
+pub use Rattle.words.specs.declared.grants.Packing.{Packing}
