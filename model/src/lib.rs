@@ -5,6 +5,7 @@
 mod boot;
 mod calls;
 mod check;
+pub mod console;
 pub mod drive;
 mod entry;
 mod grant;

@@ -4,7 +4,7 @@
 mod shared;
 
 use model::drive::generator::poke;
-use model::drive::trace::fnv;
+use model::drive::trace::hash;
 use model::{State, SIZE};
 use shared::kernel::{announce, KERNEL};
 use std::process::exit;
@@ -41,13 +41,9 @@ fn main() {
 }
 
 /// Runs one line; what the kernel gave instead is an error, a line out of form is None.
-fn run(s: &mut State, line: &str) -> Option<Result<(), i64>> {
+fn run(s: &mut State, line: &str) -> Option<Result<(), String>> {
     let mut fields = line.split(' ');
     let step = fields.next()?;
-    if step == "h" {
-        let hash: u64 = fields.next()?.parse().ok()?;
-        return Some(same(hash as i64, fnv(s) as i64));
-    }
     let numbers: Vec<i64> = fields.map(|f| f.parse().ok()).collect::<Option<_>>()?;
     let given = match (step, &numbers[..]) {
         ("b", [_]) => (KERNEL.boot)(&mut s[..]),
@@ -60,13 +56,20 @@ fn run(s: &mut State, line: &str) -> Option<Result<(), i64>> {
             poke(s, *at as usize, *word as u32);
             return Some(Ok(()));
         }
+        ("h", [high, low]) => {
+            let (h, l) = hash(s);
+            return Some(same(
+                (*high, *low) == (h.into(), l.into()),
+                format!("{h} {l}"),
+            ));
+        }
         _ => return None,
     };
-    Some(same(*numbers.last()?, given as i64))
+    Some(same(*numbers.last()? == given.into(), given.to_string()))
 }
 
-fn same(recorded: i64, given: i64) -> Result<(), i64> {
-    if recorded == given {
+fn same(as_recorded: bool, given: String) -> Result<(), String> {
+    if as_recorded {
         Ok(())
     } else {
         Err(given)

@@ -1,14 +1,19 @@
-//! What the drivers share and that needs no kernel: a generator of calls, the table of pairs met,
-//! damages, and the two sides under one face.
+//! What the drivers share and that needs no kernel: a generator of calls and of console lines, the
+//! table of pairs met, damages, and the two sides under one face.
 
 pub mod api;
 pub mod arguments;
+pub mod bad_lines;
+pub mod bad_words;
 pub mod command;
 pub mod coverage;
 pub mod damages;
 pub mod generator;
+pub mod lines;
 pub mod look;
 pub mod prepared;
 pub mod rng;
+pub mod seldom;
 pub mod shapes;
+pub mod spelling;
 pub mod trace;

@@ -6,12 +6,14 @@ use std::fmt::Write;
 /// The format, as a comment at the file's top.
 pub const FORMAT: &str = "\
 # Recorded calls on the capability kernel. One line is one step, its fields apart by one space,
-# all numbers decimal. The steps are run in order on one buffer of 17,472 bytes.
+# all numbers decimal and at most 4294967295. The steps are run in order on one buffer of 17,472
+# bytes.
 #   b ANSWER                          boot
 #   t ANSWER                          tick
 #   p OFFSET WORD                     write a 32-bit word, little-endian, into the buffer
 #   c CALLER W0 W1 W2 W3 ANSWER       call
-#   h HASH                            FNV-1a, 64 bits, of the whole buffer as it stands
+#   h HIGH LOW                        the upper and lower 32 bits of the whole buffer's hash:
+#                                     it is 5381, then hash*33 + byte mod 2^64 for each byte
 # ANSWER is the signed answer to be expected. A line that begins with # is a comment.
 ";
 
@@ -40,7 +42,8 @@ impl Trace {
     }
 
     pub fn hash(&mut self, s: &State) {
-        self.line(format_args!("h {}", fnv(s)));
+        let (high, low) = hash(s);
+        self.line(format_args!("h {high} {low}"));
     }
 
     fn line(&mut self, line: std::fmt::Arguments) {
@@ -57,9 +60,11 @@ impl Trace {
     }
 }
 
-/// FNV-1a of 64 bits.
-pub fn fnv(bytes: &[u8]) -> u64 {
-    bytes.iter().fold(0xCBF2_9CE4_8422_2325, |hash, &byte| {
-        (hash ^ byte as u64).wrapping_mul(0x0100_0000_01B3)
-    })
+/// The upper and lower half of a hash of 64 bits, so that a replay program needs no number above a
+/// word. Multiply and add is all that it takes in any language.
+pub fn hash(bytes: &[u8]) -> (u32, u32) {
+    let hash = bytes.iter().fold(5381u64, |hash, &byte| {
+        hash.wrapping_mul(33).wrapping_add(byte as u64)
+    });
+    ((hash >> 32) as u32, hash as u32)
 }

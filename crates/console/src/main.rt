@@ -1,0 +1,128 @@
+// A person at the kernel: lines from standard input, each a boot, ticks, a call or a look at the state; docs/USING.md has their form.
+// The state, a line and what is to be printed have each a buffer of fixed length, however long the input is.
+mod answers;
+mod faults;
+mod out;
+mod rights;
+mod show;
+mod steps;
+
+use crate::faults::put_long_line;
+use crate::out::{first, flush};
+use crate::steps::{boot, step};
+use libc::{STDERR_FILENO, STDIN_FILENO};
+use lines::requests::request_in;
+
+// How far the input has been read: the bytes of the line that is not yet ended (1,025 stands for any more than 1,024), the lines
+// before it, and how much waits to be printed.
+struct Progress {
+    length: usize,
+    lines: u64,
+    used: usize,
+}
+
+// The line that ends here; answers how much waits to be printed.
+fn end_line(s: &mut [u8; 17472], line: &[u8], p: Progress, in_words: bool, out: &mut [u8; 8192]) -> usize {
+    let number = std::num::wrapping_add_u64(p.lines, 1);
+    if 1024 < p.length {
+        return put_long_line(out, p.used, number);
+    }
+    let r = request_in(first(line, p.length));
+    step(s, r, number, in_words, out, p.used)
+}
+
+fn take_byte(s: &mut [u8; 17472], line: &mut [u8; 1024], p: Progress, byte: u8, in_words: bool, out: &mut [u8; 8192]) -> Progress {
+    if byte == b'\n' {
+        let used = end_line(s, line, p, in_words, out);
+        return Progress { length: 0, lines: std::num::wrapping_add_u64(p.lines, 1), used };
+    }
+    let at = p.length;
+    if at < 1024 {
+        line[at] = byte;
+        return Progress { length: at + 1, lines: p.lines, used: p.used };
+    }
+    Progress { length: 1025, lines: p.lines, used: p.used }
+}
+
+fn take_bytes(s: &mut [u8; 17472], line: &mut [u8; 1024], p: Progress, bytes: &[u8], in_words: bool, out: &mut [u8; 8192]) -> Progress {
+    let mut now = p;
+    for i in 0..bytes.len() {
+        now = take_byte(s, line, now, bytes[i], in_words, out);
+    }
+    now
+}
+
+// What came of one read: how far it got, and whether the input goes on.
+struct Turn {
+    progress: Progress,
+    goes_on: bool,
+}
+
+// Reads what there is, does its lines and writes what they print before it waits again, so that a person sees each answer at once.
+fn read_once(s: &mut [u8; 17472], line: &mut [u8; 1024], p: Progress, in_words: bool, out: &mut [u8; 8192]) -> Turn {
+    let mut chunk = [0u8; 4096];
+    let got = libc::read(STDIN_FILENO, &mut chunk);
+    let n = io::count(got, &chunk);
+    if n == 0 {
+        return Turn { progress: p, goes_on: false };
+    }
+    let now = take_bytes(s, line, p, &chunk[..n], in_words, out);
+    flush(out, now.used);
+    let progress = Progress { length: now.length, lines: now.lines, used: 0 };
+    Turn { progress, goes_on: true }
+}
+
+// A proved loop has to end, and nothing says that the input does: the turns are counted down from a number that no run uses up.
+fn run(s: &mut [u8; 17472], line: &mut [u8; 1024], in_words: bool, out: &mut [u8; 8192]) {
+    let mut p = Progress { length: 0, lines: 0, used: 0 };
+    let mut turns: u64 = 0xFFFFFFFFFFFFFFFF;
+    while 0 < turns {
+        let t = read_once(s, line, p, in_words, out);
+        p = t.progress;
+        if !t.goes_on {
+            break;
+        }
+        turns -= 1;
+    }
+    // A last line that nothing ends is a line too.
+    if 0 < p.length {
+        let used = end_line(s, line, p, in_words, out);
+        flush(out, used);
+    }
+}
+
+enum Argument {
+    Absent,
+    Words,
+    Unknown,
+}
+
+fn first_argument() -> Argument {
+    if os::arg_count() < 2 {
+        return Argument::Absent;
+    }
+    let mut word = [0u8; 8];
+    let n = os::arg(1, &mut word);
+    if n == 5 && word[0] == b'w' && word[1] == b'o' && word[2] == b'r' && word[3] == b'd' && word[4] == b's' {
+        return Argument::Words;
+    }
+    Argument::Unknown
+}
+
+fn start(in_words: bool) {
+    let mut s = [0u8; 17472];
+    let mut line = [0u8; 1024];
+    let mut out = [0u8; 8192];
+    boot(&mut s);
+    run(&mut s, &mut line, in_words, &mut out);
+}
+
+fn main() {
+    match first_argument() {
+        Argument::Absent => start(false),
+        Argument::Words => start(true),
+        Argument::Unknown => {
+            io::write_all(STDERR_FILENO, b"console: the one argument that it takes is: words\n");
+        }
+    }
+}

@@ -1,0 +1,54 @@
+// What the console prints, gathered in a lent buffer and written when that is full or the console waits for input: a call to the
+// system for each word of text would cost more than the kernel does. `used` is how much of the buffer waits; each function
+// answers how much waits after it.
+ghost use Rattle.io.specs.Counts.{Counts};
+use libc::STDOUT_FILENO;
+
+pub fn put_byte(out: &mut [u8; 8192], used: usize, byte: u8) -> usize {
+    if used < 8192 {
+        out[used] = byte;
+        return used + 1;
+    }
+    flush(out, used);
+    out[0] = byte;
+    1
+}
+
+pub fn put(out: &mut [u8; 8192], used: usize, text: &[u8]) -> usize {
+    let mut u = used;
+    for i in 0..text.len() {
+        u = put_byte(out, u, text[i]);
+    }
+    u
+}
+
+pub fn put_decimal(out: &mut [u8; 8192], used: usize, n: u64) -> usize {
+    let mut text = [0u8; 20];
+    let k = io::decimal(n, &mut text);
+    put(out, used, &text[..k])
+}
+
+// Hexadecimal of at least so many digits.
+pub fn put_hex(out: &mut [u8; 8192], used: usize, n: u64, digits: usize) -> usize {
+    let mut text = [0u8; 16];
+    let k = io::hex(n, digits, &mut text);
+    put(out, used, &text[..k])
+}
+
+// A count of the slice's bytes, as a part of it from the start takes it.
+fn within(n: usize, s: &[u8]) -> usize
+    ensures { λ r. ⌜ Counts r (now (s .entry)) ⌝ }
+{
+    if n <= s.len() { n } else { 0 }
+}
+
+// The first n bytes.
+pub fn first(s: &[u8], n: usize) -> &[u8] {
+    let k = within(n, s);
+    &s[..k]
+}
+
+// Writes what waits; nothing waits after it.
+pub fn flush(out: &[u8], used: usize) {
+    io::write_all(STDOUT_FILENO, first(out, used));
+}

@@ -1,0 +1,5 @@
+pub mod Names
+pub mod Numbers
+pub mod Spans
+pub mod Words
+pub mod Requests

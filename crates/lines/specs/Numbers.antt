@@ -1,0 +1,47 @@
+-- "A number is decimal (18) or hexadecimal (0x20000500, either letter case after 0x), at most 4294967295."
+use mathlib.Core.Bool.{Bool, true, false}
+use mathlib.Core.List.{List, [], _∷_}
+use Prim.Native.Nat.{ℕ, _+_, _-_, _*_}
+use lib.Dec.{eqb, leb, ltb}
+use lib.ListN.{drop, getD}
+use Rattle.words.specs.Tests.{_&_, choose}
+use Rattle.lines.specs.Names.{Number, Value, NotANumber, TooLarge}
+
+unfoldable pub within : ℕ → ℕ → ℕ → Bool
+within low high b = leb low b & leb b high
+
+-- `0` to `9`, `A` to `F`, `a` to `f`; any other character counts 16, which is a digit in neither base
+unfoldable pub digitOf : ℕ → ℕ
+digitOf b =
+    choose (within 48 57 b) (b - 48)
+    (choose (within 65 70 b) (b - 65 + 10)
+    (choose (within 97 102 b) (b - 97 + 10) 16))
+
+unfoldable pub allDigits : ℕ → List ℕ → Bool
+allDigits base [] = true
+allDigits base (b ∷ bs) = ltb (digitOf b) base & allDigits base bs
+
+-- the value of digits that follow digits of value v
+unfoldable pub valueFrom : ℕ → ℕ → List ℕ → ℕ
+valueFrom base v [] = v
+valueFrom base v (b ∷ bs) = valueFrom base (v * base + digitOf b) bs
+
+-- "at most 4294967295"
+unfoldable pub sized : ℕ → Number
+sized n = choose (leb n 4294967295) (Value n) TooLarge
+
+-- a character that is no digit decides before the size does
+unfoldable pub digitsOf : ℕ → ℕ → List ℕ → Number
+digitsOf base v bs = choose (allDigits base bs) (sized (valueFrom base v bs)) NotANumber
+
+-- one digit or more
+unfoldable pub numberIn : ℕ → List ℕ → Number
+numberIn base [] = NotANumber
+numberIn base (b ∷ bs) = digitsOf base 0 (b ∷ bs)
+
+-- begins with `0x`
+unfoldable pub hexadecimal : List ℕ → Bool
+hexadecimal text = eqb (getD text 0 0) 48 & eqb (getD text 1 0) 120
+
+unfoldable pub numberOf : List ℕ → Number
+numberOf text = choose (hexadecimal text) (numberIn 16 (drop 2 text)) (numberIn 10 text)
