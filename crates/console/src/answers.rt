@@ -1,13 +1,6 @@
 // An answer as a number and, where asked for, in words.
 use crate::out::{put, put_byte, put_decimal};
-
-// A count is not negative.
-fn natural(n: i32) -> u64 {
-    if n < 0 {
-        return 0;
-    }
-    n as u64
-}
+use lines::counts::count_of;
 
 fn put_row(out: &mut [u8; 8192], used: usize, number: &[u8], meaning: &[u8], in_words: bool) -> usize {
     let u = put(out, used, number);
@@ -52,7 +45,7 @@ fn put_meaning(out: &mut [u8; 8192], used: usize, call: u32) -> usize {
 }
 
 fn put_success(out: &mut [u8; 8192], used: usize, n: i32, call: u32, in_words: bool) -> usize {
-    let u = put_decimal(out, used, natural(n));
+    let u = put_decimal(out, used, count_of(n) as u64);
     if !in_words {
         return u;
     }

@@ -8,9 +8,10 @@ mod show;
 mod steps;
 
 use crate::faults::put_long_line;
-use crate::out::{first, flush};
+use crate::out::flush;
 use crate::steps::{boot, step};
 use libc::{STDERR_FILENO, STDIN_FILENO};
+use lines::gather::{first, gather};
 use lines::requests::request_in;
 
 // How far the input has been read: the bytes of the line that is not yet ended (1,025 stands for any more than 1,024), the lines
@@ -32,16 +33,12 @@ fn end_line(s: &mut [u8; 17472], line: &[u8], p: Progress, in_words: bool, out: 
 }
 
 fn take_byte(s: &mut [u8; 17472], line: &mut [u8; 1024], p: Progress, byte: u8, in_words: bool, out: &mut [u8; 8192]) -> Progress {
-    if byte == b'\n' {
-        let used = end_line(s, line, p, in_words, out);
-        return Progress { length: 0, lines: std::num::wrapping_add_u64(p.lines, 1), used };
+    let g = gather(line, p.length, byte);
+    if !g.ended {
+        return Progress { length: g.length, lines: p.lines, used: p.used };
     }
-    let at = p.length;
-    if at < 1024 {
-        line[at] = byte;
-        return Progress { length: at + 1, lines: p.lines, used: p.used };
-    }
-    Progress { length: 1025, lines: p.lines, used: p.used }
+    let used = end_line(s, line, p, in_words, out);
+    Progress { length: 0, lines: std::num::wrapping_add_u64(p.lines, 1), used }
 }
 
 fn take_bytes(s: &mut [u8; 17472], line: &mut [u8; 1024], p: Progress, bytes: &[u8], in_words: bool, out: &mut [u8; 8192]) -> Progress {

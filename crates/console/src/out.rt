@@ -1,8 +1,8 @@
 // What the console prints, gathered in a lent buffer and written when that is full or the console waits for input: a call to the
 // system for each word of text would cost more than the kernel does. `used` is how much of the buffer waits; each function
 // answers how much waits after it.
-ghost use Rattle.io.specs.Counts.{Counts};
 use libc::STDOUT_FILENO;
+use lines::gather::first;
 
 pub fn put_byte(out: &mut [u8; 8192], used: usize, byte: u8) -> usize {
     if used < 8192 {
@@ -33,19 +33,6 @@ pub fn put_hex(out: &mut [u8; 8192], used: usize, n: u64, digits: usize) -> usiz
     let mut text = [0u8; 16];
     let k = io::hex(n, digits, &mut text);
     put(out, used, &text[..k])
-}
-
-// A count of the slice's bytes, as a part of it from the start takes it.
-fn within(n: usize, s: &[u8]) -> usize
-    ensures { λ r. ⌜ Counts r (now (s .entry)) ⌝ }
-{
-    if n <= s.len() { n } else { 0 }
-}
-
-// The first n bytes.
-pub fn first(s: &[u8], n: usize) -> &[u8] {
-    let k = within(n, s);
-    &s[..k]
 }
 
 // Writes what waits; nothing waits after it.

@@ -1,7 +1,7 @@
 -- Reading digits as the loop does: one character more, the end, and why a value above 4294967295 may be cut to one that stands for all.
 use mathlib.Core.Bool.{Bool, true, false}
 use mathlib.Core.List.{List, [], _∷_}
-use mathlib.Core.Path.{_≡_, refl, sym, ap, _∙_}
+use mathlib.Core.Path.{_≡_, refl, sym, _∙_}
 use Prim.Native.Nat.{ℕ, _+_, _*_, _<_, _≤_, min}
 use native.Mathlib.Decide.{decLe}
 use native.Mathlib.Nat.{min-eq-left, min-eq-right, mul-le-mul-left}
@@ -12,7 +12,7 @@ use lib.ListN.{drop, drop-of-length-le, getD, length}
 use lib.Seq.{drop-cons}
 use borrow.Author.Tests.{le-leb, lt-leb, lt-ltb, le-ltb}
 use Rattle.words.specs.Tests.{_&_}
-use Rattle.lines.specs.Names.{Number, NotANumber, TooLarge}
+use Rattle.lines.specs.Names.{NotANumber, TooLarge}
 use Rattle.lines.specs.Numbers.{allDigits, digitOf, digitsOf, numberIn, sized, valueFrom, within}
 
 -- ---- a character's class

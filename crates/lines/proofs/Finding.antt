@@ -1,10 +1,9 @@
 -- The words of a line as the loops find them: past the blanks stands the first word, and behind it the others.
 use mathlib.Core.Bool.{Bool, true, false, false≢true}
 use mathlib.Core.List.{List, [], _∷_}
-use mathlib.Core.Path.{_≡_, refl, sym, ap, _∙_}
+use mathlib.Core.Path.{_≡_, refl, ap, _∙_}
 use Prim.Native.Nat.{ℕ, suc, _+_, _-_, _<_, _≤_}
 use native.Mathlib.Decide.{decLt}
-use native.Mathlib.Numerals.{add-one}
 use native.Mathlib.Omega.{arith}
 use lib.ListN.{drop, drop-of-length-le, getD, length, length-drop, take}
 use lib.Seq.{drop-drop, take-nil}

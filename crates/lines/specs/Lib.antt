@@ -3,3 +3,5 @@ pub mod Numbers
 pub mod Spans
 pub mod Words
 pub mod Requests
+pub mod Gather
+pub mod Counts

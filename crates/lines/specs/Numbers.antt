@@ -1,5 +1,5 @@
 -- "A number is decimal (18) or hexadecimal (0x20000500, either letter case after 0x), at most 4294967295."
-use mathlib.Core.Bool.{Bool, true, false}
+use mathlib.Core.Bool.{Bool, true}
 use mathlib.Core.List.{List, [], _∷_}
 use Prim.Native.Nat.{ℕ, _+_, _-_, _*_}
 use lib.Dec.{eqb, leb, ltb}
@@ -30,11 +30,11 @@ valueFrom base v (b ∷ bs) = valueFrom base (v * base + digitOf b) bs
 unfoldable pub sized : ℕ → Number
 sized n = choose (leb n 4294967295) (Value n) TooLarge
 
--- a character that is no digit decides before the size does
+-- digits that follow digits of value v; a character that is none decides before the size does
 unfoldable pub digitsOf : ℕ → ℕ → List ℕ → Number
 digitsOf base v bs = choose (allDigits base bs) (sized (valueFrom base v bs)) NotANumber
 
--- one digit or more
+-- one digit or more, and nothing else
 unfoldable pub numberIn : ℕ → List ℕ → Number
 numberIn base [] = NotANumber
 numberIn base (b ∷ bs) = digitsOf base 0 (b ∷ bs)

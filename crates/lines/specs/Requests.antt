@@ -1,5 +1,4 @@
 -- The console's lines and their faults, a rule each; the first that fits decides.
-use mathlib.Core.Bool.{Bool, true, false}
 use mathlib.Core.List.{List, [], _∷_}
 use Prim.Native.Nat.{ℕ, _+_, _-_}
 use lib.Dec.{eqb}
@@ -37,6 +36,7 @@ alone n asked more = choose (eqb n 1) asked (Unreadable more)
 unfoldable pub tickOf : List (List ℕ) → Request
 tickOf ws = choose (eqb (length ws) 2) (given (operandAt ws 1) Tick) (Unreadable fault.TickForm)
 
+-- "the call with the words N:C, P1, P2, P3, by the process at slot CALLER"
 unfoldable pub fiveOf : List (List ℕ) → Request
 fiveOf ws =
     given (operandAt ws 0) (λ caller.

@@ -6,16 +6,17 @@ use lib.Dec.{eqb}
 use Rattle.words.specs.Tests.{_&_, choose}
 use Rattle.lines.specs.Spans.{blank, solid}
 
--- whether the byte before these, if it is one of a word, has its word go on in them
+-- a word that ends before these bytes goes on in them
 unfoldable pub goesOn : List ℕ → Bool
 goesOn [] = false
 goesOn (b ∷ bs) = solid b
 
--- the first word with a byte in front
+-- the first word with a byte more in front; the case of no words does not come up where it is asked for
 unfoldable pub grown : ℕ → List (List ℕ) → List (List ℕ)
 grown b [] = []
 grown b (w ∷ ws) = (b ∷ w) ∷ ws
 
+-- a byte that is no blank belongs to the word behind it, or is a word's last
 unfoldable pub wordsOf : List ℕ → List (List ℕ)
 wordsOf [] = []
 wordsOf (b ∷ bs) =

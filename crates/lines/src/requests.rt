@@ -1,11 +1,13 @@
 // What a line asks for, or the first fault in it.
 ghost use mathlib.Core.Path.{_≡_};
 ghost use lib.ListN.{length};
-ghost use Rattle.lines.specs.Words.{same, wordsOf};
-ghost use Rattle.lines.specs.Requests.{alone, askedBy, callOf, operandAt, requestFrom, requestOf, tickOf, unreturned};
+ghost use Rattle.lines.specs.Words.{wordsOf};
+ghost use Rattle.lines.specs.Requests.{askedBy, requestFrom, requestOf, unreturned};
 use crate::bytes::byte_at;
-use crate::numbers::Number;
-use crate::numbers::number_in;
+use crate::bytes::is;
+use crate::forms::call_in;
+use crate::forms::command;
+use crate::forms::tick_in;
 use crate::split::word;
 use crate::split::word_count;
 
@@ -38,12 +40,6 @@ pub enum Request {
     Unreadable(Fault),
 }
 
-// A word where a number has to stand.
-enum Operand {
-    Is(u32),
-    Faulty(Fault),
-}
-
 // "A carriage return before the line's end is not read."
 fn without_return(line: &[u8]) -> &[u8]
     ensures { λ r. ⌜ now r ≡ unreturned (now (line .entry)) ⌝ }
@@ -56,73 +52,6 @@ fn without_return(line: &[u8]) -> &[u8]
         return line;
     }
     &line[..last]
-}
-
-fn is(word: &[u8], name: &[u8]) -> bool
-    ensures { λ r. ⌜ r ≡ same (now (word .entry)) (now (name .entry)) ⌝ }
-{
-    check::same(word, name)
-}
-
-fn operand_at(text: &[u8], k: u8) -> Operand
-    ensures { λ r. ⌜ r ≡ operandAt (wordsOf (now (text .entry))) k ⌝ }
-{
-    let place = k as u32 + 1;
-    match number_in(word(text, k as usize)) {
-        Number::Value(n) => Operand::Is(n),
-        Number::NotANumber => Operand::Faulty(Fault::NotANumber(place)),
-        Number::TooLarge => Operand::Faulty(Fault::TooLarge(place)),
-    }
-}
-
-// A command that is a word alone, in a line of n words.
-fn command(n: usize, asked: Request, more: Fault) -> Request
-    ensures { λ r. ⌜ r ≡ alone n asked more ⌝ }
-{
-    if n == 1 { asked } else { Request::Unreadable(more) }
-}
-
-fn tick_in(text: &[u8], n: usize) -> Request
-    requires { ⌜ n ≡ length (wordsOf (now text)) ⌝ }
-    ensures { λ r. ⌜ r ≡ tickOf (wordsOf (now (text .entry))) ⌝ }
-{
-    if n != 2 {
-        return Request::Unreadable(Fault::TickForm);
-    }
-    match operand_at(text, 1) {
-        Operand::Is(k) => Request::Tick(k),
-        Operand::Faulty(f) => Request::Unreadable(f),
-    }
-}
-
-fn call_in(text: &[u8], n: usize) -> Request
-    requires { ⌜ n ≡ length (wordsOf (now text)) ⌝ }
-    ensures { λ r. ⌜ r ≡ callOf (wordsOf (now (text .entry))) ⌝ }
-{
-    if n != 5 {
-        return Request::Unreadable(Fault::Count(n));
-    }
-    let caller = match operand_at(text, 0) {
-        Operand::Is(x) => x,
-        Operand::Faulty(f) => return Request::Unreadable(f),
-    };
-    let w0 = match operand_at(text, 1) {
-        Operand::Is(x) => x,
-        Operand::Faulty(f) => return Request::Unreadable(f),
-    };
-    let w1 = match operand_at(text, 2) {
-        Operand::Is(x) => x,
-        Operand::Faulty(f) => return Request::Unreadable(f),
-    };
-    let w2 = match operand_at(text, 3) {
-        Operand::Is(x) => x,
-        Operand::Faulty(f) => return Request::Unreadable(f),
-    };
-    let w3 = match operand_at(text, 4) {
-        Operand::Is(x) => x,
-        Operand::Faulty(f) => return Request::Unreadable(f),
-    };
-    Request::Call(Call { caller, w0, w1, w2, w3 })
 }
 
 // By the first word of the n: a command, or a call, which begins with a digit.

@@ -1,6 +1,6 @@
 -- `lines::numbers::digits_from` meets its contract: what is left to read, after the value so far, decides the whole.
-use mathlib.Core.Path.{_≡_, sym, ap, _∙_}
-use Prim.Native.Nat.{ℕ, _+_, _*_, _-_, _≤_, min}
+use mathlib.Core.Path.{_≡_, sym, _∙_}
+use Prim.Native.Nat.{_-_, _≤_}
 use native.Mathlib.Nat.{mul-le-mul, min-le-right}
 use native.Mathlib.Omega.{arith}
 use lib.ListN.{length, drop}
@@ -64,8 +64,8 @@ loop-again c = let s = c .before .before .before .before .before .before .before
     let d = c .before .before .digit in (
       rw (c .capped .ensures) (min-le-right _ _),
       l .inv .1
-      ∙ digits-more (a .base) (l .v) (now (a .text)) (l .i) (s .pre .0) (c .before .before .before .before .loop-test .taken) (rw (d .ensures) at (c .before .if2 .left))
-      ∙ rw (c .capped .ensures, d .ensures),
+          ∙ digits-more (a .base) (l .v) (now (a .text)) (l .i) (s .pre .0) (c .before .before .before .before .loop-test .taken) (rw (d .ensures) at (c .before .if2 .left))
+          ∙ rw (c .capped .ensures, d .ensures),
     )
 
 cast-t17 : tie.Need-cast-t17 Inv-loop μ-loop

@@ -1,5 +1,5 @@
 -- `lines::spans::is_blank` meets its contract.
-use borrow.Author.Tests.{eq-eqb, ne-eqb}
+use borrow.Author.Tests.{ne-eqb}
 use Rattle.words.specs.Tests.{_or_}
 use Rattle.lines.specs.Spans.{blank}
 use Rattle.lines.proofs.spans.is_blank.Statement.{statement}

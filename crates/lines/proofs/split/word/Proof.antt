@@ -36,7 +36,7 @@ loop-again c = let a = c .before .before .before .before .args in
     let one-less : l .left ≡ suc (l .left - 1) = omega arith in (
       search needs,
       l .inv .1 ∙ ap (λ (n : ℕ). getD (wordsOf (drop (l .at) (now (a .line)))) n []) one-less
-      ∙ word-later (now (a .line)) (l .at) (l .inv .0) (s .result) (s .ensures .0) (l .left - 1),
+          ∙ word-later (now (a .line)) (l .at) (l .inv .0) (s .result) (s .ensures .0) (l .left - 1),
     )
 
 word-after-requires-2 : tie.Need-word-after-requires-2 Inv-loop μ-loop

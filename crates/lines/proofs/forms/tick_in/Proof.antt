@@ -1,9 +1,9 @@
--- `lines::requests::tick_in` meets its contract.
+-- `lines::forms::tick_in` meets its contract.
 use borrow.Author.Needs.{needs}
 use borrow.Author.Tests.{eq-eqb, ne-eqb}
 use Rattle.lines.specs.Requests.{tickOf}
-use Rattle.lines.proofs.requests.tick_in.Statement.{statement}
-use Rattle.lines.proofs.requests.tick_in.Tie as tie
+use Rattle.lines.proofs.forms.tick_in.Statement.{statement}
+use Rattle.lines.proofs.forms.tick_in.Tie as tie
 
 returns : tie.Need-returns
 unfolding tickOf

@@ -1,8 +1,8 @@
--- `lines::requests::command` meets its contract.
+-- `lines::forms::command` meets its contract.
 use borrow.Author.Tests.{eq-eqb, ne-eqb}
 use Rattle.lines.specs.Requests.{alone}
-use Rattle.lines.proofs.requests.command.Statement.{statement}
-use Rattle.lines.proofs.requests.command.Tie as tie
+use Rattle.lines.proofs.forms.command.Statement.{statement}
+use Rattle.lines.proofs.forms.command.Tie as tie
 
 returns : tie.Need-returns
 unfolding alone

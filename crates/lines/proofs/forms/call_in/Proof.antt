@@ -1,9 +1,9 @@
--- `lines::requests::call_in` meets its contract: the numbers read so far, and the one that decides.
+-- `lines::forms::call_in` meets its contract: the numbers read so far, and the one that decides.
 use borrow.Author.Needs.{needs}
 use borrow.Author.Tests.{eq-eqb, ne-eqb}
 use Rattle.lines.specs.Requests.{callOf, fiveOf}
-use Rattle.lines.proofs.requests.call_in.Statement.{statement}
-use Rattle.lines.proofs.requests.call_in.Tie as tie
+use Rattle.lines.proofs.forms.call_in.Statement.{statement}
+use Rattle.lines.proofs.forms.call_in.Tie as tie
 
 returns : tie.Need-returns
 unfolding callOf

@@ -1,10 +1,10 @@
--- `lines::requests::is` meets its contract: equal words are spelt alike, and only they.
+-- `lines::bytes::is` meets its contract: equal words are spelt alike, and only they.
 use borrow.Author.Needs.{needs}
 use denote.Ref.{now}
 use Rattle.words.proofs.Tests.{iff}
 use Rattle.lines.proofs.Spelling.{same-equal, same-self}
-use Rattle.lines.proofs.requests.is.Statement.{statement}
-use Rattle.lines.proofs.requests.is.Tie as tie
+use Rattle.lines.proofs.bytes.is.Statement.{statement}
+use Rattle.lines.proofs.bytes.is.Tie as tie
 
 same-requires : tie.Need-same-requires
 same-requires c κs = search needs

@@ -1,8 +1,8 @@
--- `lines::requests::operand_at` meets its contract.
+-- `lines::operands::operand_at` meets its contract.
 use borrow.Author.Needs.{needs}
 use Rattle.lines.specs.Requests.{operandAt}
-use Rattle.lines.proofs.requests.operand_at.Statement.{statement}
-use Rattle.lines.proofs.requests.operand_at.Tie as tie
+use Rattle.lines.proofs.operands.operand_at.Statement.{statement}
+use Rattle.lines.proofs.operands.operand_at.Tie as tie
 
 add-place : tie.Need-add-place
 add-place c = search needs
