@@ -1,3 +1,4 @@
 pub mod Names
 pub mod Demands
 pub mod Script
+pub mod Grants
