@@ -1,5 +1,6 @@
 #!/bin/sh
-# Builds the C and the Rust example against the proved kernel, runs both and compares what they print with grant.expected.
+# Runs the console on the session of all twenty calls, builds the C and the Rust example against the proved kernel and runs both; what
+# each prints is compared with its file .expected.
 # The archive is for x86-64. On another processor this needs a C compiler, Rust's library and an emulator for x86-64; Debian has them as
 #   gcc-x86-64-linux-gnu qemu-user rustc, and libstd-rust-dev for the architecture amd64.
 # CC, RUSTC and RUN name others.
@@ -9,6 +10,14 @@ made=target/examples
 target=x86_64-unknown-linux-gnu
 
 need() { command -v "$1" >/dev/null || { echo "examples: $1 is not found; see the first lines of examples/run.sh" >&2; exit 2; }; }
+
+compare() { # NAME STORED PRINTED
+    if ! diff "$2" "$3"; then
+        echo "examples: $1 printed something else than $2" >&2
+        exit 1
+    fi
+    echo "$1: $(wc -l <"$2" | tr -d ' ') lines as stored"
+}
 
 # The first of the Rust compilers that has its library for x86-64.
 rust_for_target() {
@@ -32,6 +41,8 @@ need "$CC"
 need "$RUSTC"
 
 mkdir -p "$made"
+./cabinet --words examples/twenty-calls.txt >"$made/twenty-calls.txt"
+compare "the twenty calls" examples/twenty-calls.expected "$made/twenty-calls.txt"
 echo "examples: proving the kernel where that has not been done, and writing its archive"
 if ! rt staticlib kernel >"$made/rt.log" 2>&1; then
     tail -n 5 "$made/rt.log" >&2
@@ -44,9 +55,5 @@ archive=$PWD/target/staticlib/libkernel.a
 
 for language in c rust; do
     $RUN "$made/grant_$language" >"$made/grant_$language.txt"
-    if ! diff examples/grant.expected "$made/grant_$language.txt"; then
-        echo "examples: grant_$language printed something else than examples/grant.expected" >&2
-        exit 1
-    fi
-    echo "$language: $(wc -l <examples/grant.expected | tr -d ' ') lines as stored"
+    compare "$language" examples/grant.expected "$made/grant_$language.txt"
 done

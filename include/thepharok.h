@@ -1,7 +1,7 @@
 /* Thepharok: a small capability kernel whose calls are proved.
  *
- * Link with libkernel.a, which `rt staticlib kernel` writes to target/staticlib/ (x86-64 Linux; it needs memset and memcpy of the
- * C library and nothing else). The functions keep nothing between calls, allocate nothing and never wait. All state is the buffer
+ * Link with libkernel.a, which `rt staticlib kernel` writes to target/staticlib/ (x86-64 Linux; of the C library
+ * it needs memset and nothing else). The functions keep nothing between calls, allocate nothing and never wait. All state is the buffer
  * that you lend; two buffers are two kernels. No function asks you to check anything beforehand: every buffer, caller and word is
  * judged, and a refusal changes no byte. Calls on one buffer must not overlap in time.
  *

@@ -4,6 +4,7 @@ ghost use mathlib.Core.Path.{_≡_};
 ghost use Rattle.rules.specs.Buffer.{sound};
 use audit_bytes::canonical::canonical;
 use audit_chains::chains_ok;
+use audit_entries::used::used;
 use audit_layout::layout::laid_out;
 use audit_objects::objects::objects_ok;
 use audit_rights::rights::rights_ok;
@@ -15,19 +16,20 @@ pub fn well_formed(s: &[u8]) -> bool
     if s.len() != 17472 {
         return false;
     }
-    if !laid_out(s) {
+    let n = used(s);
+    if !laid_out(s, n) {
         return false;
     }
-    if !canonical(s) {
+    if !canonical(s, n) {
         return false;
     }
-    if !objects_ok(s) {
+    if !objects_ok(s, n) {
         return false;
     }
-    if !rights_ok(s) {
+    if !rights_ok(s, n) {
         return false;
     }
-    if !roots_ok(s) {
+    if !roots_ok(s, n) {
         return false;
     }
     chains_ok(s)

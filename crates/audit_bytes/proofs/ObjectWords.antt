@@ -41,9 +41,6 @@ module _ (p : List ℕ) (u : Bytes p) where
       starts-append (ownBytes o) (replicate (slotSize * sizeOf o - length (ownBytes o)) 0) p
       ∙ ap (λ (x : Bool). starts (ownBytes o) p & x) (ap₂ (λ (i j : ℕ). starts (replicate i 0) (drop j p)) q l ∙ zeros-stand p u n z h)
 
-  pub free-stands : length p ≡ slotSize → starts (memoryBytes free) p ≡ zeroWords p 0 16
-  free-stands h = own-then-zeros free 0 16 refl refl (omega arith) ∙ and-yes _ _ (starts-nil p)
-
   pub table-stands : (n : ℕ) → length p ≡ slotSize * slotsFor (entrySize * n)
       → starts (memoryBytes (tableIn p n)) p ≡ (allBelow n (λ i. placeStands p (entrySize * i)) & zeroWords p (entrySize * n) (8 * (n % 2)))
   table-stands n h =

@@ -1,14 +1,15 @@
 -- What is read in the part that an object's slots are is what the whole buffer has there; and how long that part is.
-use mathlib.Core.Bool.{Bool, false, true}
+use mathlib.Core.Bool.{true}
 use mathlib.Core.List.{List, _∷_}
 use mathlib.Core.Path.{ap, refl, sym, _∙_, _≡_}
 use Prim.Native.Nat.{_*_, _+_, _<_, suc, zero, ℕ, _≤_}
 use native.Mathlib.Nat.{le-of-eq}
 use native.Mathlib.Omega.{arith}
-use lib.Dec.{ltb}
-use lib.ListN.{List·getD-eq-default, drop, getD, length, length-drop, length-take, take}
-use lib.Seq.{getD-drop, getD-take, length-take-le}
-use borrow.Author.Tests.{ltb-false, ltb-true, ne-eqb}
+use lib.ListN.{drop, length, length-drop, take}
+use lib.Seq.{getD-take, length-take-le}
+use borrow.Author.Tests.{ne-eqb}
+use Rattle.audit_entries.proofs.Vacant.{vacant-tag}
+use Rattle.audit_entries.specs.Vacant.{Vacant}
 use Rattle.audit_layout.proofs.Slots.{size-directory, size-other, size-table}
 use Rattle.rules.specs.WellFormed.{apart}
 use Rattle.state.proofs.Look.{argumentByte, listed-length, object-cases, object-known, object-read, slots-length, tagByte}
@@ -19,11 +20,12 @@ use Rattle.state.specs.Layout.{Laid}
 use Rattle.state.specs.Read.{listed, objectFrom, placeOf, positionOf, positionsFor, read, shapeFrom, slotFrom}
 use Rattle.state.specs.State.{Object, directory, free, objAt, positionsIn, sizeOf, table}
 use Rattle.words.proofs.Tests.{and-right}
+use Rattle.words.specs.Fields.{slot}
 use Rattle.words.specs.Sizes.{entrySize, headerSize, positionSize, slotCount, slotSize, slotsFor, stateLength}
 use Rattle.audit_bytes.specs.Clean.{zeroWords}
 use Rattle.audit_bytes.specs.Names.{Slot}
 use Rattle.audit_bytes.specs.Stands.{objectStands, starts}
-use Rattle.audit_bytes.proofs.ObjectWords.{free-stands}
+use Rattle.audit_bytes.proofs.Runs.{zeros-stand}
 use Rattle.audit_bytes.proofs.Starts.{starts-nil, starts-take}
 use Rattle.audit_bytes.proofs.Words.{Bytes}
 
@@ -73,15 +75,14 @@ pub laid-open : (b : List ℕ) → apart (read b) ≡ true → Laid (read b)
 unfolding apart
 laid-open b h = record { room = slots-length b; laid = and-right _ _ h }
 
--- ---- p is the part of the n slots that the object in slot k of a laid-out buffer takes
-pub record Cut (b : List ℕ) (k : Slot) (n : ℕ) (p : List ℕ) : Type 0 where
+-- ---- p is the part of the slots that the object in slot k of a laid-out buffer takes
+pub record Cut (b : List ℕ) (k : Slot) (p : List ℕ) : Type 0 where
   pub inside : k .0 < slotCount
   pub long : length b ≡ stateLength
   pub laid : apart (read b) ≡ true
-  pub size : n ≡ sizeOf (objAt (read b) k)
-  pub part : p ≡ take (slotSize * n) (drop (slotSize * k .0) b)
+  pub part : p ≡ take (slotSize * sizeOf (objAt (read b) k)) (drop (slotSize * k .0) b)
 
-module _ (b : List ℕ) (k : Slot) (n : ℕ) (p : List ℕ) (w : Cut b k n p) where
+module _ (b : List ℕ) (k : Slot) (p : List ℕ) (w : Cut b k p) where
   -- the object stands in the buffer where it stands in its part
   pub cut-stands : (t : ℕ) → tagByte b (k .0) ≡ t → starts (memoryBytes (objectFrom t (argumentByte b (k .0)) p)) p ≡ objectStands b k
   unfolding slotFrom
@@ -89,7 +90,7 @@ module _ (b : List ℕ) (k : Slot) (n : ℕ) (p : List ℕ) (w : Cut b k n p) wh
       let s = object-read b k (w .inside) in
       ap (λ (i : ℕ). starts (memoryBytes (objectFrom i (argumentByte b (k .0)) p)) p) (sym e)
       ∙ part-stands (tagByte b (k .0)) (argumentByte b (k .0)) (drop (slotSize * k .0) b) p
-      (w .part ∙ ap (λ (i : ℕ). take (slotSize * i) (drop (slotSize * k .0) b)) (w .size ∙ ap sizeOf s))
+      (w .part ∙ ap (λ (o : Object). take (slotSize * sizeOf o) (drop (slotSize * k .0) b)) s)
       ∙ ap (λ (o : Object). starts (memoryBytes o) (drop (slotSize * k .0) b)) (sym s)
 
   not-later : (tagByte b (k .0) ≡ 1 → ⊥) → tagOf (objAt (read b) k) ≡ 1 → ⊥
@@ -103,8 +104,7 @@ module _ (b : List ℕ) (k : Slot) (n : ℕ) (p : List ℕ) (w : Cut b k n p) wh
   cut-length d =
       let room = object-room (read b) (laid-open b (w .laid)) (k .0) (w .inside) (not-later d) in
       ap length (w .part)
-      ∙ length-take-le (slotSize * n) (drop (slotSize * k .0) b) (omega (arith, length-drop (slotSize * k .0) b, w .size, w .long))
-      ∙ ap (λ (i : ℕ). slotSize * i) (w .size)
+      ∙ length-take-le (slotSize * sizeOf (objAt (read b) k)) (drop (slotSize * k .0) b) (omega (arith, length-drop (slotSize * k .0) b, w .long))
 
   pub cut-table : tagByte b (k .0) ≡ 2 → length p ≡ slotSize * slotsFor (entrySize * argumentByte b (k .0))
   cut-table e = cut-length (λ z. let q = sym e ∙ z in omega arith) ∙ ap (λ (i : ℕ). slotSize * i) (size-table b k (w .inside) e)
@@ -112,36 +112,28 @@ module _ (b : List ℕ) (k : Slot) (n : ℕ) (p : List ℕ) (w : Cut b k n p) wh
   pub cut-directory : tagByte b (k .0) ≡ 3 → length p ≡ slotSize * slotsFor (headerSize + positionSize * positionsIn (read b) k)
   cut-directory e = cut-length (λ z. let q = sym e ∙ z in omega arith) ∙ ap (λ (i : ℕ). slotSize * i) (size-directory b k (w .inside) e)
 
-  -- of what is neither a table, nor a directory, nor a later slot
-  pub cut-one : (tagByte b (k .0) ≡ 1 → ⊥) → (tagByte b (k .0) ≡ 2 → ⊥) → (tagByte b (k .0) ≡ 3 → ⊥) → length p ≡ slotSize
-  cut-one d1 d2 d3 = cut-length d1 ∙ ap (λ (i : ℕ). slotSize * i) (size-other b k (w .inside) d1 d2 d3)
-
+  -- of a process and of an endpoint
   pub cut-small : (t : ℕ) → tagByte b (k .0) ≡ t → 3 < t → length p ≡ slotSize
-  cut-small t e h = cut-one (λ z. let q = sym e ∙ z in omega arith) (λ z. let q = sym e ∙ z in omega arith) (λ z. let q = sym e ∙ z in omega arith)
+  cut-small t e h =
+      let d1 : tagByte b (k .0) ≡ 1 → ⊥ = λ z. omega arith in
+      cut-length d1 ∙ ap (λ (i : ℕ). slotSize * i) (size-other b k (w .inside) d1 (λ z. omega arith) (λ z. omega arith))
 
-  -- a part of bytes is bytes
-  cut-bytes : Bytes b → Bytes p
-  cut-bytes u i = rw (w .part) (go (ltb i m) refl)
-    where
-      m : ℕ
-      m = slotSize * n
+-- ---- a free slot is looked at in the whole buffer
+pub free-stands : (b : List ℕ) → Bytes b → length b ≡ stateLength → (k : Slot) → k .0 < slotCount
+    → (tagByte b (k .0) ≡ 1 → ⊥) → (tagByte b (k .0) ≡ 2 → ⊥) → (tagByte b (k .0) ≡ 3 → ⊥) → (tagByte b (k .0) ≡ 4 → ⊥) → (tagByte b (k .0) ≡ 5 → ⊥)
+    → zeroWords b (slotSize * k .0) 16 ≡ objectStands b k
+unfolding slotFrom
+free-stands b u long k in-it d1 d2 d3 d4 d5 =
+    sym
+    (ap (λ (o : Object). starts (memoryBytes o) (drop (slotSize * k .0) b)) (object-read b k in-it ∙ object-none (tagByte b (k .0)) (argumentByte b (k .0)) (drop (slotSize * k .0) b) d1 d2 d3 d4 d5)
+    ∙ zeros-stand b u (slotSize * k .0) 16 (omega arith))
 
-      l : List ℕ
-      l = drop (slotSize * k .0) b
-
-      go : (z : Bool) → ltb i m ≡ z → getD (take m l) i 0 < 256
-      go true h = rw (getD-take m l i 0 (ltb-true i m h), getD-drop) (u (slotSize * k .0 + i))
-      go false h =
-          let past : length (take m l) ≤ i = omega (arith, length-take m l, ltb-false i m h) in
-          rw (List·getD-eq-default (take m l) 0 past) (omega arith)
-
-  -- what the last arm of the code tests
-  pub cut-free : Bytes b → (tagByte b (k .0) ≡ 1 → ⊥) → (tagByte b (k .0) ≡ 2 → ⊥) → (tagByte b (k .0) ≡ 3 → ⊥) → (tagByte b (k .0) ≡ 4 → ⊥) → (tagByte b (k .0) ≡ 5 → ⊥)
-      → zeroWords p 0 16 ≡ objectStands b k
-  cut-free u d1 d2 d3 d4 d5 =
-      sym (free-stands p (cut-bytes u) (cut-one d1 d2 d3))
-      ∙ ap (λ (x : Object). starts (memoryBytes x) p) (sym (object-none (tagByte b (k .0)) (argumentByte b (k .0)) p d1 d2 d3 d4 d5))
-      ∙ cut-stands (tagByte b (k .0)) refl
+-- and behind the slots that are used no note has to be read for it
+pub vacant-stands : (b : List ℕ) → Bytes b → length b ≡ stateLength → (n : ℕ) → Vacant b n → (k : ℕ) → n ≤ k → k < slotCount
+    → zeroWords b (slotSize * k) 16 ≡ objectStands b (slot k)
+vacant-stands b u long n v k h l =
+    let t = vacant-tag b n v k h l in
+    free-stands b u long (slot k) l (λ z. omega arith) (λ z. omega arith) (λ z. omega arith) (λ z. omega arith) (λ z. omega arith)
 
 -- an object that goes on has no bytes of its own here
 pub later-stands : (b : List ℕ) (k : Slot) → k .0 < slotCount → tagByte b (k .0) ≡ 1 → objectStands b k ≡ true

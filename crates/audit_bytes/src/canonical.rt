@@ -2,6 +2,7 @@
 ghost use mathlib.Core.Bool.{true};
 ghost use mathlib.Core.Path.{_≡_};
 ghost use lib.ListN.{length};
+ghost use Rattle.audit_entries.specs.Vacant.{Vacant};
 ghost use Rattle.rules.specs.Buffer.{same};
 ghost use Rattle.rules.specs.WellFormed.{apart};
 ghost use Rattle.state.specs.Bytes.{bytes};
@@ -9,18 +10,18 @@ ghost use Rattle.state.specs.Read.{read};
 ghost use Rattle.words.specs.Sizes.{stateLength};
 use crate::notes::notes_stand;
 use crate::objects::objects_stand;
-use crate::words_in::zeros_in;
+use crate::zeros::zeros_in;
 
 // Whether a buffer whose objects are laid out is the bytes of the state that it is read as.
-pub fn canonical(s: &[u8]) -> bool
-    requires { ⌜ (length (now s) ≡ stateLength) × (apart (read (now s)) ≡ true) ⌝ }
+pub fn canonical(s: &[u8], n: usize) -> bool
+    requires { ⌜ (length (now s) ≡ stateLength) × (apart (read (now s)) ≡ true) × Vacant (now s) n ⌝ }
     ensures { λ r. ⌜ r ≡ same (bytes (read (now (s .entry)))) (now (s .entry)) ⌝ }
 {
-    if !notes_stand(s) {
+    if !notes_stand(s, n) {
         return false;
     }
     if !zeros_in(s, 17412, 15) {
         return false;
     }
-    objects_stand(s)
+    objects_stand(s, n)
 }

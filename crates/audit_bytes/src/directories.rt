@@ -7,8 +7,8 @@ ghost use Rattle.audit_bytes.specs.Stands.{directoryIn, positionStands, 
 ghost use Rattle.state.specs.Bytes.{memoryBytes};
 ghost use Rattle.words.specs.Sizes.{headerSize, positionSize, slotSize, slotsFor};
 ghost use Rattle.words.specs.Tests.{allBelow};
-use crate::words_in::word_in;
-use crate::words_in::zeros_in;
+use crate::zeros::zeros_in;
+use audit_entries::word_in;
 
 // A page has flags and any frame, a child flags and a slot, and what is empty is zero.
 fn position_clean(first: u32, second: u32) -> bool

@@ -5,4 +5,4 @@ pub mod notes;
 pub mod objects;
 pub mod places;
 pub mod tables;
-pub mod words_in;
+pub mod zeros;

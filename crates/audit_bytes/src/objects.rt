@@ -1,18 +1,21 @@
 // What stands in each slot, in the part of the buffer that its slots are.
 ghost use mathlib.Core.Bool.{true};
 ghost use mathlib.Core.Path.{_≡_};
-ghost use lib.ListN.{length};
+ghost use Prim.Native.Nat.{_*_};
+ghost use lib.ListN.{drop, length, take};
 ghost use Rattle.audit_bytes.specs.Stands.{endpointIn, objectStands, processIn, starts};
+ghost use Rattle.audit_entries.specs.Vacant.{Vacant};
 ghost use Rattle.rules.specs.WellFormed.{apart};
 ghost use Rattle.state.specs.Bytes.{memoryBytes};
 ghost use Rattle.state.specs.Read.{read};
+ghost use Rattle.state.specs.State.{objAt, sizeOf};
 ghost use Rattle.words.specs.Fields.{slot};
 ghost use Rattle.words.specs.Sizes.{slotCount, slotSize, stateLength};
 ghost use Rattle.words.specs.Tests.{allBelow};
 use crate::directories::directory_stands;
 use crate::tables::table_stands;
-use crate::words_in::word_in;
-use crate::words_in::zeros_in;
+use crate::zeros::zeros_in;
+use audit_entries::word_in;
 use audit_layout::sizes::size_at;
 use reading::bytes::slots_from;
 use reading::directories::positions_in;
@@ -45,29 +48,42 @@ fn endpoint_stands(p: &[u8]) -> bool
     zeros_in(p, 8, 14)
 }
 
-// "hands on just its slots". A slot in which an object goes on has none of its own.
+// "hands on just its slots": those of what stands in a slot.
+fn own_slots(s: &[u8], k: Slot) -> &[u8]
+    ensures { λ r. ⌜ now r ≡ take (slotSize * sizeOf (objAt (read (now (s .entry))) k)) (drop (slotSize * k .0) (now (s .entry))) ⌝ }
+{
+    slots_from(s, k, size_at(s, k))
+}
+
+// A slot in which an object goes on has nothing of its own. Most slots are free: they are looked at where they lie.
 fn object_stands(s: &[u8], k: Slot) -> bool
     requires { ⌜ (length (now s) ≡ stateLength) × (apart (read (now s)) ≡ true) ⌝ }
     ensures { λ r. ⌜ r ≡ objectStands (now (s .entry)) k ⌝ }
 {
-    let part = slots_from(s, k, size_at(s, k));
     match tag_byte(s, k) {
         1 => true,
-        2 => table_stands(part, argument_byte(s, k)),
-        3 => directory_stands(part, positions_in(s, k)),
-        4 => process_stands(part),
-        5 => endpoint_stands(part),
-        _ => zeros_in(part, 0, 16),
+        2 => table_stands(own_slots(s, k), argument_byte(s, k)),
+        3 => directory_stands(own_slots(s, k), positions_in(s, k)),
+        4 => process_stands(own_slots(s, k)),
+        5 => endpoint_stands(own_slots(s, k)),
+        _ => zeros_in(s, 64 * (k.0 as usize), 16),
     }
 }
 
-pub fn objects_stand(s: &[u8]) -> bool
-    requires { ⌜ (length (now s) ≡ stateLength) × (apart (read (now s)) ≡ true) ⌝ }
+// Behind the n slots that are used each slot is free, and no note is read.
+pub fn objects_stand(s: &[u8], n: usize) -> bool
+    requires { ⌜ (length (now s) ≡ stateLength) × (apart (read (now s)) ≡ true) × Vacant (now s) n ⌝ }
     ensures { λ r. ⌜ r ≡ allBelow slotCount (λ k. objectStands (now (s .entry)) (slot k)) ⌝ }
 {
-    let mut k: u16 = 0;
-    while k < 256 {
+    let mut k: usize = 0;
+    while k < n {
         if !object_stands(s, Slot(k as u8)) {
+            return false;
+        }
+        k += 1;
+    }
+    while k < 256 {
+        if !zeros_in(s, 64 * k, 16) {
             return false;
         }
         k += 1;

@@ -5,8 +5,8 @@ ghost use Prim.Native.Nat.{_+_, _≤_};
 ghost use lib.ListN.{length};
 ghost use Rattle.audit_bytes.specs.Clean.{frostClean, kindClean, objectAlone};
 ghost use Rattle.audit_bytes.specs.Stands.{placeStands};
-use crate::words_in::word_in;
-use crate::words_in::zeros_in;
+use crate::zeros::zeros_in;
+use audit_entries::word_in;
 
 // Kinds without a range.
 fn object_alone(low: u32, high: u32, object: u32) -> bool

@@ -7,7 +7,7 @@ ghost use Rattle.state.specs.Bytes.{memoryBytes};
 ghost use Rattle.words.specs.Sizes.{entrySize, slotSize, slotsFor};
 ghost use Rattle.words.specs.Tests.{allBelow};
 use crate::places::place_stands;
-use crate::words_in::zeros_in;
+use crate::zeros::zeros_in;
 
 fn places_stand(p: &[u8], n: usize) -> bool
     requires { ⌜ entrySize * n ≤ length (now p) ⌝ }

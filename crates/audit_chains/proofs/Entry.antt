@@ -10,7 +10,8 @@ use lib.Dec.{ltb}
 use lib.ListN.{getD, length}
 use borrow.Author.Tests.{eq-eqb, ltb-false, ltb-true, ne-eqb}
 use Rattle.audit_entries.proofs.Entries.{place-cases}
-use Rattle.rules.specs.Calls.{most}
+use Rattle.rules.proofs.Inside.{blank-past}
+use Rattle.rules.specs.Chains.{codeOf, originCode}
 use Rattle.rules.specs.WellFormed.{everyPlace, right}
 use Rattle.state.proofs.Look.{place-known, place-past}
 use Rattle.state.proofs.Sizes.{goes-body, lay-suc, lay-zero}
@@ -20,11 +21,8 @@ use Rattle.state.specs.State.{Object, State, body, directory, endpoint, entries
 use Rattle.words.proofs.Tests.{all-at}
 use Rattle.words.specs.Fields.{slot}
 use Rattle.words.specs.Sizes.{placeCount, slotCount}
-use Rattle.audit_chains.specs.Chains.{Ready, codeOf, codes, holds, originCode, under}
+use Rattle.audit_chains.specs.Chains.{Ready, codes, holds, under}
 use Rattle.audit_chains.specs.Names.{Blank, Holds, Origin, Place, Root, Slot, Under}
-use Rattle.audit_chains.proofs.Chain.{here}
-use Rattle.audit_chains.proofs.Codes.{blank-past}
-use Rattle.audit_chains.proofs.Fuel.{inside}
 
 -- ---- the parent word
 origin-code : (w : ℕ) → originCode (originFrom w) ≡ w + 1

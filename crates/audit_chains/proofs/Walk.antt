@@ -9,14 +9,16 @@ use native.Mathlib.Numerals.{add-two}
 use native.Mathlib.Omega.{arith}
 use lib.ListN.{getD, length-replicate, length-set, replicate, set}
 use lib.Seq.{getD-set-other}
+use Rattle.rules.proofs.Chain.{Reaches, To, back, here, snoc, used-of}
+use Rattle.rules.proofs.Codes.{reaches-test, same-test}
+use Rattle.rules.proofs.Fuel.{getD-blank, onward, within}
+use Rattle.rules.specs.Chains.{codeOf}
 use Rattle.rules.specs.WellFormed.{reaches}
 use Rattle.state.specs.Layout.{Laid}
 use Rattle.state.specs.State.{State, placeNumbered}
 use Rattle.words.specs.Sizes.{placeCount}
-use Rattle.audit_chains.specs.Chains.{Shown, codes}
-use Rattle.audit_chains.proofs.Chain.{Reaches, To, back, here, snoc}
-use Rattle.audit_chains.proofs.Codes.{reaches-test, same-test}
-use Rattle.audit_chains.proofs.Fuel.{getD-blank, onward, within}
+use Rattle.audit_chains.specs.Chains.{Shown, codes, holds}
+use Rattle.audit_chains.specs.Names.{Blank, Holds, Place}
 
 -- inside the walk from e, at x with `left` steps to go: x lies on e's chain, and the test of e has become the test of x
 pub record Going (st : State) (e x left : ℕ) : Type 0 where
@@ -25,8 +27,7 @@ pub record Going (st : State) (e x left : ℕ) : Type 0 where
 
 module _ (st : State) (w : Laid st) where
   pub going-start : (e : ℕ) → Going st e e placeCount
-  unfolding codes
-  going-start e = record { came = here refl; same = same-test (placeNumbered st) placeCount e }
+  going-start e = record { came = here refl; same = same-test st e }
 
   pub going-next : (e x q left : ℕ) → 0 < left → codes st x ≡ q + 2 → Going st e x left → Going st e q (left - 1)
   going-next e x q zero l c g = absurd (not-suc-le-zero l)
@@ -52,3 +53,12 @@ module _ (st : State) (w : Laid st) where
 
 pub shown-none : (st : State) → Shown st (replicate placeCount 0)
 shown-none st = record { long = length-replicate {A = ℕ} placeCount 0; shown = λ y h. absurd (h (getD-blank placeCount y)) }
+
+-- ---- what reaches a root is no blank
+used-holds : (p : Place) → (codeOf p ≡ 0 → ⊥) → holds p ≡ true
+used-holds Blank h = absurd (h refl)
+used-holds (Holds c) h = refl
+
+pub reaches-holds : (st : State) (x : ℕ) → Reaches (codes st) x → holds (placeNumbered st x) ≡ true
+unfolding codes
+reaches-holds st x r = used-holds (placeNumbered st x) (used-of (codes st) x r)

@@ -2,7 +2,7 @@
 use mathlib.Core.Bool.{Bool, false, true}
 use mathlib.Core.List.{List}
 use mathlib.Core.Path.{_≡_}
-use Prim.Native.Nat.{_+_, ℕ}
+use Prim.Native.Nat.{ℕ}
 use lib.ListN.{getD, length}
 use Rattle.rules.specs.WellFormed.{everyPlace, reaches, right}
 use Rattle.state.specs.Layout.{Laid}
@@ -10,6 +10,7 @@ use Rattle.state.specs.Read.{read}
 use Rattle.state.specs.State.{State, placeNumbered}
 use Rattle.words.specs.Sizes.{placeCount, stateLength}
 use Rattle.audit_chains.specs.Names.{Blank, Holds, Origin, Place, Root, Under}
+unfoldable pub use Rattle.rules.specs.Chains.{codes}
 
 unfoldable pub chained : State → Origin → Bool
 chained st Root = true
@@ -37,18 +38,6 @@ pub record Ready (b : List ℕ) : Type 0 where
   pub size : length b ≡ stateLength
   pub laid : Laid (read b)
   pub parents : everyPlace (read b) (right (λ c. under (read b) (c .origin))) ≡ true
-
--- where a place's chain goes on: 0 blank, 1 a root, p + 2 under the place of number p
-abbrev pub originCode : Origin → ℕ
-originCode Root = 1
-originCode (Under p) = p + 2
-
-abbrev pub codeOf : Place → ℕ
-codeOf Blank = 0
-codeOf (Holds c) = originCode (c .origin)
-
-unfoldable pub codes : State → ℕ → ℕ
-codes st x = codeOf (placeNumbered st x)
 
 -- "A 512-entry mark array, one mark per possible table entry, records entries already shown to reach a root."
 pub record Shown (st : State) (marks : List ℕ) : Type 0 where

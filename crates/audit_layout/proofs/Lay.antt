@@ -60,3 +60,13 @@ pub lay-end : (st : State) (c h k : ℕ) → length (st .slots) ≤ k → layFro
 unfolding layFrom lay
 lay-end st zero h k l = rw (drop-of-length-le (st .slots) l)
 lay-end st (suc c) h k l = ap (lay k (suc c) (slot h)) (drop-of-length-le (st .slots) l) ∙ sym (ne-eqb (suc c) 0 (λ z. omega arith))
+
+-- nor behind the slots that are used, where m slots are free
+pub lay-vacant : (st : State) (m c h k : ℕ) → k + m ≡ length (st .slots) → ((j : ℕ) → k ≤ j → j < length (st .slots) → objAt st (slot j) ≡ free)
+    → layFrom st c h k ≡ eqb c 0
+lay-vacant st zero c h k e f = lay-end st c h k (omega arith)
+lay-vacant st (suc m) zero h k e f =
+    lay-new st h k (omega arith) 1 (ap sizeOf (f k (omega arith) (omega arith))) (λ z. omega arith)
+    ∙ lay-vacant st m 0 k (k + 1) (omega arith) (λ j a l. f j (omega arith) l)
+lay-vacant st (suc m) (suc c) h k e f =
+    lay-stops st h k (omega arith) (suc c) (λ z. omega arith) (ap (goesOn (slot h)) (f k (omega arith) (omega arith))) ∙ sym (ne-eqb (suc c) 0 (λ z. omega arith))

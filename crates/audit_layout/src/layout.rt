@@ -1,5 +1,6 @@
 // Each object's slots follow its first one, and each later slot names the first: one pass over the notes.
 ghost use mathlib.Core.Path.{_≡_};
+ghost use Rattle.audit_entries.specs.Vacant.{Vacant};
 ghost use Rattle.rules.specs.WellFormed.{apart};
 ghost use Rattle.state.specs.Layout.{goesOn};
 ghost use Rattle.state.specs.Read.{read};
@@ -19,20 +20,21 @@ fn goes_on(s: &[u8], first: Slot, k: Slot) -> bool
     argument_byte(s, k) == first.0
 }
 
-// `owed` slots still belong to the object that stands at `first`.
-pub fn laid_out(s: &[u8]) -> bool
+// `owed` slots still belong to the object that stands at `first`. Behind the n slots that are used nothing can be owed.
+pub fn laid_out(s: &[u8], n: usize) -> bool
+    requires { ⌜ Vacant (now s) n ⌝ }
     ensures { λ r. ⌜ r ≡ apart (read (now (s .entry))) ⌝ }
 {
     let mut owed: u16 = 0;
     let mut first: u8 = 0;
-    let mut k: u16 = 0;
-    while k < 256 {
+    let mut k: usize = 0;
+    while k < n {
         if owed == 0 {
-            let n = size_at(s, Slot(k as u8));
-            if n == 0 {
+            let size = size_at(s, Slot(k as u8));
+            if size == 0 {
                 return false;
             }
-            owed = n - 1;
+            owed = size - 1;
             first = k as u8;
         } else {
             if !goes_on(s, Slot(first), Slot(k as u8)) {

@@ -2,6 +2,7 @@
 ghost use mathlib.Core.Bool.{true};
 ghost use mathlib.Core.Path.{_≡_};
 ghost use lib.ListN.{length};
+ghost use Rattle.audit_entries.specs.Vacant.{Vacant};
 ghost use Rattle.words.specs.Sizes.{stateLength};
 ghost use Rattle.state.specs.Bytes.{tagOf};
 ghost use Rattle.state.specs.Read.{read};
@@ -52,12 +53,13 @@ fn object_ok(s: &[u8], k: Slot) -> bool
     }
 }
 
-pub fn objects_ok(s: &[u8]) -> bool
-    requires { ⌜ (length (now s) ≡ stateLength) × (apart (read (now s)) ≡ true) ⌝ }
+// Behind the n slots that are used each slot is free.
+pub fn objects_ok(s: &[u8], n: usize) -> bool
+    requires { ⌜ (length (now s) ≡ stateLength) × (apart (read (now s)) ≡ true) × Vacant (now s) n ⌝ }
     ensures { λ r. ⌜ r ≡ everyObject (read (now (s .entry))) (objectOk (read (now (s .entry)))) ⌝ }
 {
     let mut k: usize = 0;
-    while k < 256 {
+    while k < n {
         if !object_ok(s, Slot(k as u8)) {
             return false;
         }

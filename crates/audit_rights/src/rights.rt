@@ -3,6 +3,7 @@ ghost use mathlib.Core.Bool.{true};
 ghost use mathlib.Core.Path.{_≡_};
 ghost use Prim.Native.Nat.{_+_, _*_, _≤_};
 ghost use lib.ListN.{length};
+ghost use Rattle.audit_entries.specs.Vacant.{Vacant};
 ghost use Rattle.words.specs.Sizes.{entrySize, stateLength};
 ghost use Rattle.words.specs.Tests.{allBelow};
 ghost use Rattle.state.specs.Read.{originFrom, placeOf, read};
@@ -82,16 +83,20 @@ fn table_ok(s: &[u8], t: Slot) -> bool
     ensures { λ r. ⌜ r ≡ allBelow (entriesIn (read (now (s .entry))) t) (λ e. right (rightButChain (read (now (s .entry)))) (placeAt (read (now (s .entry))) t e)) ⌝ }
 {
     let n = entries_in(s, t);
+    if n == 0 {
+        return true;
+    }
     let part = table_slots(s, t, n);
     entries_ok(s, part, n as usize)
 }
 
-pub fn rights_ok(s: &[u8]) -> bool
-    requires { ⌜ (length (now s) ≡ stateLength) × (apart (read (now s)) ≡ true) ⌝ }
+// Behind the n slots that are used there is no table.
+pub fn rights_ok(s: &[u8], n: usize) -> bool
+    requires { ⌜ (length (now s) ≡ stateLength) × (apart (read (now s)) ≡ true) × Vacant (now s) n ⌝ }
     ensures { λ r. ⌜ r ≡ everyPlace (read (now (s .entry))) (right (rightButChain (read (now (s .entry))))) ⌝ }
 {
     let mut t: usize = 0;
-    while t < 256 {
+    while t < n {
         if !table_ok(s, Slot(t as u8)) {
             return false;
         }

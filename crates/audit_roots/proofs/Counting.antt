@@ -3,7 +3,7 @@ use mathlib.Core.Bool.{Bool, false, true}
 use mathlib.Core.List.{List}
 use mathlib.Core.Logic.{_≢_}
 use mathlib.Core.Path.{ap, refl, sym, _∙_, _≡_}
-use Prim.Native.Nat.{_*_, _+_, _<_, ℕ, _≤_}
+use Prim.Native.Nat.{_*_, _+_, _-_, _<_, ℕ, _≤_}
 use native.Mathlib.Nat.{le-trans}
 use native.Mathlib.Numerals.{add-one}
 use native.Mathlib.Omega.{arith}
@@ -12,15 +12,19 @@ use lib.ListN.{getD, getD-replicate, length, length-replicate, length-set, repli
 use lib.Seq.{getD-set-other, getD-set-same}
 use borrow.Author.Tests.{eqb-false, eqb-true, ne-eqb}
 use Rattle.audit_entries.proofs.Entries.{entries-few}
+use Rattle.audit_entries.proofs.Vacant.{vacant-free}
+use Rattle.audit_entries.specs.Vacant.{Vacant}
 use Rattle.rules.specs.Calls.{most}
 use Rattle.rules.specs.WellFormed.{one}
 use Rattle.state.specs.Layout.{Laid}
+use Rattle.state.specs.Read.{read}
 use Rattle.state.specs.State.{State, entriesIn, placeAt}
 use Rattle.words.specs.Fields.{slot}
+use Rattle.words.specs.Sizes.{slotCount}
 use Rattle.words.specs.Tests.{sumBelow}
 use Rattle.audit_roots.specs.Names.{Place}
 use Rattle.audit_roots.specs.Roots.{Counts, UpTo, keys, more, rootKey, rootsAmong, rootsBelow}
-use Rattle.audit_roots.proofs.Sums.{sum-most, sum-upto}
+use Rattle.audit_roots.proofs.Sums.{sum-end, sum-most, sum-upto}
 
 -- ---- one entry
 -- the count under k is one more, and the others are as they were
@@ -84,3 +88,12 @@ pub below-most : (st : State) → Laid st → (n k : ℕ) → rootsBelow st n k 
 unfolding rootsBelow
 below-most st w n k =
     sum-most 512 n _ (λ s l. le-trans (among-most (placeAt st (slot s)) (entriesIn st (slot s)) k) (entries-few st w (slot s)))
+
+-- behind the slots that are used there is no table
+pub below-vacant : (b : List ℕ) (n : ℕ) → Vacant b n → (k : ℕ) → rootsBelow (read b) n k ≡ rootsBelow (read b) slotCount k
+unfolding rootsBelow
+below-vacant b n v k =
+    let e : n + (slotCount - n) ≡ slotCount = omega (arith, v .few) in
+    sym
+    (ap (λ (i : ℕ). sumBelow i (λ s. rootsAmong (placeAt (read b) (slot s)) (entriesIn (read b) (slot s)) k)) (sym e)
+    ∙ sum-end (slotCount - n) n _ (λ x h l. rw (vacant-free b n v x h (omega arith)) (among-zero _ k)))

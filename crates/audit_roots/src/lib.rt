@@ -4,6 +4,7 @@ ghost use mathlib.Core.Path.{_≡_};
 ghost use Prim.Native.Nat.{_+_, _*_, _<_, _≤_};
 ghost use lib.Dec.{eqb};
 ghost use lib.ListN.{length};
+ghost use Rattle.audit_entries.specs.Vacant.{Vacant};
 ghost use Rattle.words.specs.Fields.{slot};
 ghost use Rattle.words.specs.Sizes.{slotCount, stateLength, entrySize, placeCount};
 ghost use Rattle.words.specs.Tests.{allBelow};
@@ -76,13 +77,13 @@ fn count_slot(s: &[u8], t: Slot, counts: &mut [u32; 258])
     count_table(table_slots(s, t, n), n, counts);
 }
 
-// The roots in every table.
-fn count_all(s: &[u8], counts: &mut [u32; 258])
-    requires { ⌜ (length (now s) ≡ stateLength) × Laid (read (now s)) × Counts (now counts) (rootsBelow (read (now s)) 0) ⌝ }
+// The roots in every table: there is none behind the n slots that are used.
+fn count_all(s: &[u8], n: usize, counts: &mut [u32; 258])
+    requires { ⌜ (length (now s) ≡ stateLength) × Laid (read (now s)) × Vacant (now s) n × Counts (now counts) (rootsBelow (read (now s)) 0) ⌝ }
     ensures { λ r. ⌜ Counts (now (counts .exit)) (rootsBelow (read (now (s .entry))) slotCount) ⌝ }
 {
-    let mut k: u32 = 0;
-    while k < 256 {
+    let mut k: usize = 0;
+    while k < n {
         count_slot(s, Slot(k as u8), counts);
         k += 1;
     }
@@ -99,12 +100,12 @@ fn one_root(s: &[u8], counts: &[u32; 258], k: Slot) -> bool
     counts[k.0 as usize] == 1
 }
 
-fn objects_rooted(s: &[u8], counts: &[u32; 258]) -> bool
-    requires { ⌜ Ready (now s) × Counts (now counts) (rootsBelow (read (now s)) slotCount) ⌝ }
+fn objects_rooted(s: &[u8], n: usize, counts: &[u32; 258]) -> bool
+    requires { ⌜ Ready (now s) × Vacant (now s) n × Counts (now counts) (rootsBelow (read (now s)) slotCount) ⌝ }
     ensures { λ r. ⌜ r ≡ everyObject (read (now (s .entry))) (oneRoot (read (now (s .entry)))) ⌝ }
 {
-    let mut k: u32 = 0;
-    while k < 256 {
+    let mut k: usize = 0;
+    while k < n {
         if !one_root(s, counts, Slot(k as u8)) {
             return false;
         }
@@ -113,13 +114,13 @@ fn objects_rooted(s: &[u8], counts: &[u32; 258]) -> bool
     true
 }
 
-pub fn roots_ok(s: &[u8]) -> bool
-    requires { ⌜ Ready (now s) ⌝ }
+pub fn roots_ok(s: &[u8], n: usize) -> bool
+    requires { ⌜ Ready (now s) × Vacant (now s) n ⌝ }
     ensures { λ r. ⌜ r ≡ rooted (read (now (s .entry))) ⌝ }
 {
     let mut counts = [0u32; 258];
-    count_all(s, &mut counts);
-    if !objects_rooted(s, &counts) {
+    count_all(s, n, &mut counts);
+    if !objects_rooted(s, n, &counts) {
         return false;
     }
     if counts[256] != 1 {

@@ -11,7 +11,7 @@ use Rattle.state.specs.Bytes.{tagOf}
 use Rattle.state.proofs.Write.{is-directory}
 use Rattle.rules.specs.Formed.{Formed}
 use Rattle.rules.specs.WellFormed.{objectNo, objectOk, positionOk, still}
-use Rattle.rules.proofs.Held.{stands-inside}
+use Rattle.rules.proofs.Inside.{laid-out, stands-inside}
 use Rattle.passed.specs.Found.{By, Stands}
 use Rattle.passed.specs.Passed.{Creation, Doomed, a-table, a-directory, a-process, an-endpoint}
 use Rattle.passed.proofs.Stand.{Standing, stands-held, stands-found, plot-fits}
@@ -68,7 +68,7 @@ module _ (st : State) (w : Formed (still st)) where
   unfolding objectOk positionOk
   page-flags d i f x h e =
       let is = is-directory (objAt st d) i h in
-      let inside : d .0 < slotCount = stands-inside (still st) w d 1 (ap objectNo is) in
+      let inside : d .0 < slotCount = stands-inside (still st) (laid-out w) d 1 (ap objectNo is) in
       let ok : objectOk (still st) d (directory (shapeOf (objAt st d)) (positionsOf (objAt st d))) ≡ true = sym (ap (objectOk (still st) d) is) ∙ w .objects (d .0) inside in
       let at : positionOk (still st) (shapeOf (objAt st d)) (positionAt st d i) ≡ true = all-at _ _ (and-right _ _ (and-right _ _ (and-right _ _ ok))) i h in
       let page : positionOk (still st) (shapeOf (objAt st d)) (Page f x) ≡ true = sym (ap (positionOk (still st) (shapeOf (objAt st d))) e) ∙ at in

@@ -1,2 +1,3 @@
 pub mod ChildSearch
+pub mod ChildWords
 pub mod UserSearch

@@ -8,11 +8,9 @@ ghost use Rattle.state.specs.Read.{placeOf, read};
 ghost use Rattle.state.specs.State.{placeNumber};
 ghost use Rattle.rules.specs.Places.{hasChildren, isChildOf};
 use reading::bytes::slots_from;
-use reading::places::place_of;
+use reading::bytes::word_at;
 use reading::tables::entries_in;
 use words::actions::Spot;
-use words::capabilities::Origin;
-use words::capabilities::Place;
 use words::numbers::Slot;
 
 // The number of a place, by which a child names its parent; as wide as the sum may be, since a place is any word.
@@ -21,19 +19,6 @@ fn place_number(p: Spot) -> u64
 {
     let t = p.table;
     2 * (t.0 as u64) + (p.entry as u64)
-}
-
-fn is_child_of(n: u64, x: Place) -> bool
-    ensures { λ r. ⌜ r ≡ isChildOf n x ⌝ }
-{
-    let Place::Holds(c) = x else {
-        return false;
-    };
-    let o = c.origin;
-    let Origin::Under(q) = o else {
-        return false;
-    };
-    q as u64 == n
 }
 
 pub fn slot_numbered(k: u32) -> Slot
@@ -51,12 +36,20 @@ fn table_slots(s: &[u8], t: Slot, entries: u32) -> &[u8]
     slots_from(s, t, ((32 * entries + 63) / 64) as u16)
 }
 
-// Entry e of the table whose slots are the part.
+// Entry e of the table whose slots are the part: its parent's word is the parent's place number and 1, and its kind's is 1 to 6.
 fn is_child(part: &[u8], e: u32, n: u64) -> bool
-    requires { ⌜ e ≤ 255 ⌝ }
+    requires { ⌜ (e ≤ 255) × (n < 8589934592) ⌝ }
     ensures { λ r. ⌜ r ≡ isChildOf n (placeOf (now (part .entry)) (entrySize * e)) ⌝ }
 {
-    is_child_of(n, place_of(part, 32 * (e as usize)))
+    let at = 32 * (e as usize);
+    if word_at(part, at + 28) as u64 != n + 1 {
+        return false;
+    }
+    let kind = word_at(part, at);
+    if kind == 0 {
+        return false;
+    }
+    kind <= 6
 }
 
 pub fn has_children(s: &[u8], p: Spot) -> bool
@@ -67,11 +60,13 @@ pub fn has_children(s: &[u8], p: Spot) -> bool
     'search: for k in 0..256 {
         let t = slot_numbered(k);
         let entries = entries_in(s, t);
-        let part = table_slots(s, t, entries);
-        for e in 0..entries {
-            if is_child(part, e, n) {
-                found = true;
-                break 'search;
+        if 0 < entries {
+            let part = table_slots(s, t, entries);
+            for e in 0..entries {
+                if is_child(part, e, n) {
+                    found = true;
+                    break 'search;
+                }
             }
         }
     }

@@ -6,6 +6,7 @@ use Rattle.words.specs.Fields.{slot}
 use Rattle.words.specs.Sizes.{slotCount}
 use Rattle.state.specs.Layout.{Laid}
 use Rattle.state.specs.State.{State, entriesIn, objAt, placeAt}
+use Rattle.rules.proofs.Inside.{laid-out}
 use Rattle.rules.specs.Formed.{Formed}
 use Rattle.rules.specs.WellFormed.{objectOk, right, rightOk}
 
@@ -13,9 +14,6 @@ pub record Base (st : State) : Type 0 where
   pub laid : Laid st
   pub rights : (s : ℕ) → s < slotCount → (e : ℕ) → e < entriesIn st (slot s) → right (rightOk st) (placeAt st (slot s) e) ≡ true
   pub objects : (s : ℕ) → s < slotCount → objectOk st (slot s) (objAt st (slot s)) ≡ true
-
-abbrev pub laid-out : {st : State} → Formed st → Laid st
-laid-out w = record { room = w .room; laid = w .laid }
 
 abbrev pub base : {st : State} → Formed st → Base st
 base w = record { laid = laid-out w; rights = w .rights; objects = w .objects }

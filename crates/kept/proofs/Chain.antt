@@ -1,14 +1,10 @@
--- "its parent chain reaches a root", with no bound on the steps: over f, the code of each place (0 blank, 1 a root, p + 2 a child of place p).
--- A chain is kept where a blank place is filled, where a place with no child changes, and where no code changes.
+-- A chain that reaches a root is kept where a blank place is filled, where a place with no child changes, and where no code changes: f has the
+-- code of each place.
 use mathlib.Core.Logic.{_≢_}
 use mathlib.Core.Path.{_∙_, _≡_}
-use Prim.Native.Nat.{_+_, suc, ℕ}
+use Prim.Native.Nat.{_+_, ℕ}
 use native.Mathlib.Omega.{arith}
-use Rattle.kept.specs.Names.{Blank, Holds, Origin, Place, Root, Under}
-
-pub data Reaches (f : ℕ → ℕ) : ℕ → Type 0 where
-  root : {e : ℕ} → f e ≡ 1 → Reaches f e
-  child : {e p : ℕ} → f e ≡ p + 2 → Reaches f p → Reaches f e
+use Rattle.rules.proofs.Chain.{Reaches, child, root}
 
 -- g is f but for entry x
 abbrev But : (ℕ → ℕ) → (ℕ → ℕ) → ℕ → Type 0
@@ -28,12 +24,3 @@ module _ (f g : ℕ → ℕ) (x : ℕ) (but : But f g x) where
 pub same-reaches : (f g : ℕ → ℕ) → ((e : ℕ) → g e ≡ f e) → (e : ℕ) → Reaches f e → Reaches g e
 same-reaches f g s e (root h) = root (s e ∙ h)
 same-reaches f g s e (child {p = p} h r) = child (s e ∙ h) (same-reaches f g s p r)
-
--- ---- the code of a place
-abbrev pub originCode : Origin → ℕ
-originCode Root = 1
-originCode (Under p) = suc (suc p)
-
-abbrev pub code : Place → ℕ
-code Blank = 0
-code (Holds c) = originCode (c .origin)

@@ -4,6 +4,8 @@ use mathlib.Core.Path.{ap, refl, sym, _∙_, _≡_}
 use Prim.Native.Nat.{_+_, _<_, ℕ}
 use native.Mathlib.Omega.{arith}
 use borrow.Author.Tests.{eq-eqb}
+use Rattle.rules.proofs.Inside.{laid-out}
+use Rattle.rules.specs.Chains.{codeOf, codes, originCode}
 use Rattle.rules.specs.Formed.{Formed}
 use Rattle.rules.specs.Places.{hasChildren, isChildOf}
 use Rattle.state.specs.State.{State, entriesIn, placeAt, placeNumber, placeNumbered, putPlace, spotNumbered}
@@ -11,13 +13,12 @@ use Rattle.words.proofs.Tests.{any-none}
 use Rattle.words.specs.Fields.{slot}
 use Rattle.words.specs.Rights.{isUnder}
 use Rattle.kept.specs.Names.{Blank, Capability, Holds, Origin, Place, Root, Slot, Spot, Under}
-use Rattle.kept.proofs.Base.{base, laid-out}
-use Rattle.kept.proofs.Chain.{code, originCode}
+use Rattle.kept.proofs.Base.{base}
 use Rattle.kept.proofs.Descent.{Fits, fits-gone}
 use Rattle.kept.proofs.PutPlace.{but-numbered}
 use Rattle.kept.proofs.Slots.{entries-in, holds-in}
 
-under-code : (n : ℕ) (p : Place) → code p ≡ n + 2 → isChildOf n p ≡ true
+under-code : (n : ℕ) (p : Place) → codeOf p ≡ n + 2 → isChildOf n p ≡ true
 under-code n Blank h = absurd (omega arith)
 under-code n (Holds c) h = go (c .origin) h
   where
@@ -41,6 +42,7 @@ module _ (st : State) (w : Formed st) (p : Spot) (he : p .entry < entriesIn st (
       absurd (false≢true (sym (any-none _ _ a i l) ∙ h))
 
   pub childless-fits : (s i : ℕ) (c : Capability) → placeAt st (slot s) i ≡ Holds c → (n : ℕ) → c .origin ≡ Under n → Fits st c n → Fits (putPlace st p Blank) c n
+  unfolding codes
   childless-fits s i c q n from f =
       fits-gone st (putPlace st p Blank) (placeNumber p) (but-numbered st (base w) p Blank he)
       (λ y h. no-child (spotNumbered st y .table) (spotNumbered st y .entry) (under-code (placeNumber p) (placeNumbered st y) h))

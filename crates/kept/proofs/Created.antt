@@ -7,6 +7,7 @@ use native.Mathlib.Nat.{add-zero}
 use native.Mathlib.Omega.{arith}
 use lib.ListN.{getD, length}
 use borrow.Author.Tests.{eq-eqb}
+use Rattle.rules.proofs.Inside.{laid-out}
 use Rattle.rules.specs.Formed.{Formed}
 use Rattle.rules.specs.WellFormed.{isRootOf, objectNo, objectOk, one, rightOk, rootsOf}
 use Rattle.state.proofs.New.{Vacant}
@@ -15,7 +16,7 @@ use Rattle.state.specs.State.{Object, State, entriesIn, objAt, placeAt, placesO
 use Rattle.words.specs.Fields.{slot}
 use Rattle.words.specs.Rights.{rootRight}
 use Rattle.kept.specs.Names.{Blank, Holds, Kind, Place, Slot, Spot}
-use Rattle.kept.proofs.Base.{Base, base, laid-out}
+use Rattle.kept.proofs.Base.{Base, base}
 use Rattle.kept.proofs.PutPlace.{fits-filled, place-base, place-like, right-keep, roots-more}
 use Rattle.kept.proofs.Raise.{raise-base, raise-fix, raise-roots, raised}
 use Rattle.kept.proofs.Roots.{Of, formed-of, no-roots, root-here, root-other, rooted-at, rooted-same, rootedNo}

@@ -11,6 +11,7 @@ use lib.Dec.{eqb}
 use lib.ListN.{getD, length}
 use borrow.Author.Tests.{eq-eqb, eqb-true}
 use Rattle.passed.specs.Found.{Stands}
+use Rattle.rules.proofs.Inside.{laid-out, stands-inside}
 use Rattle.rules.specs.Calls.{hangsSomewhere, isChildAt}
 use Rattle.rules.specs.Formed.{Formed}
 use Rattle.rules.specs.Places.{hasChildren, hasUsers, isUserOf}
@@ -22,13 +23,12 @@ use Rattle.words.proofs.Tests.{any-none, or-false}
 use Rattle.words.specs.Fields.{slot}
 use Rattle.words.specs.Rights.{isBlank, isRoot}
 use Rattle.kept.specs.Names.{Blank, Capability, Child, Empty, Holds, Place, Slot, Spot}
-use Rattle.kept.proofs.Base.{Base, base, laid-out}
+use Rattle.kept.proofs.Base.{Base, base}
 use Rattle.kept.proofs.Childless.{childless-fits}
 use Rattle.kept.proofs.Objects.{tag-of}
 use Rattle.kept.proofs.PutPlace.{place-apart, place-base, place-like, place-put, roots-less}
 use Rattle.kept.proofs.Raze.{raze-base, raze-left, raze-roots}
 use Rattle.kept.proofs.Roots.{Of, formed-of, root-here, root-other, rooted-at, rooted-same, rootedNo}
-use Rattle.kept.proofs.Slots.{in-slots}
 use Rattle.kept.proofs.Stand.{Bare}
 
 not-eqb : (a b : ℕ) → eqb a b ≡ false → a ≢ b
@@ -80,7 +80,7 @@ module _ (st : State) (w : Formed st) (p : Spot) (c : Capability) (o : Slot) (i 
 
   rootless : rootsOf st₁ (suc i) o ≡ 0
   rootless =
-      let one-root : rootsOf st (suc i) o ≡ 1 = eqb-true _ _ (sym (ap (rootedNo st o) number) ∙ rooted-at st w (o .0) (in-slots st (laid-out w) o i number)) in
+      let one-root : rootsOf st (suc i) o ≡ 1 = eqb-true _ _ (sym (ap (rootedNo st o) number) ∙ rooted-at st w (o .0) (stands-inside st (laid-out w) o i number)) in
       let z : rootsOf st (suc i) o ≡ rootsOf st₁ (suc i) o + 1 = less (suc i) o ∙ ap (λ (b : Bool). rootsOf st₁ (suc i) o + one b) (root-here c o i of orig) in
       omega arith
 

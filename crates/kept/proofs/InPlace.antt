@@ -7,6 +7,7 @@ use native.Mathlib.Omega.{arith}
 use borrow.Author.Tests.{eq-eqb, lt-ltb, ltb-true}
 use Rattle.passed.proofs.Stand.{stands-found}
 use Rattle.passed.specs.Passed.{Counted, DirectoryChanged, TableChanged}
+use Rattle.rules.proofs.Inside.{laid-out, stands-inside}
 use Rattle.rules.specs.Commit.{commit}
 use Rattle.rules.specs.Formed.{Formed}
 use Rattle.rules.specs.WellFormed.{objectNo, objectOk, runs, still}
@@ -15,14 +16,12 @@ use Rattle.state.specs.State.{State, bootMark, countOf, directoryNamed, endpoin
 use Rattle.words.proofs.Tests.{and-both, and-left, and-right}
 use Rattle.words.specs.Fields.{count}
 use Rattle.kept.specs.Names.{ChangeDirectory, ChangeTable, Count, SetCount, Slot}
-use Rattle.kept.proofs.Base.{laid-out}
 use Rattle.kept.proofs.Objects.{tagged}
 use Rattle.kept.proofs.Put.{put-formed}
-use Rattle.kept.proofs.Slots.{in-slots}
 
 module _ (st : State) (w : Formed (still st)) where
   object-ok : (o : Slot) (i : ℕ) → objectNo (objAt st o) ≡ suc i → objectOk (still st) o (objAt st o) ≡ true
-  object-ok o i h = w .objects (o .0) (in-slots (still st) (laid-out w) o i h)
+  object-ok o i h = w .objects (o .0) (stands-inside (still st) (laid-out w) o i h)
 
   -- ---- what a process names
   process-is : (p : Slot) → objectNo (objAt st p) ≡ 4 → objAt st p ≡ process (tableNamed (objAt st p)) (directoryNamed (objAt st p))

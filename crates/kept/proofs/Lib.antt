@@ -2,7 +2,6 @@ pub mod Base
 pub mod Objects
 pub mod Slots
 pub mod Chain
-pub mod Fuel
 pub mod Descent
 pub mod Stay
 pub mod Roots

@@ -1,5 +1,4 @@
 -- An object by the number of the kind that names it: from that number to the tag by which the laws of the layout go, and to its parts.
-use mathlib.Core.Bool.{false≢true, true}
 use mathlib.Core.Logic.{_≢_}
 use mathlib.Core.Path.{refl, _≡_}
 use Prim.Native.Nat.{_+_, suc, ℕ, _≤_}
@@ -8,7 +7,7 @@ use native.Mathlib.Omega.{arith}
 use lib.ListN.{getD}
 use Rattle.rules.specs.WellFormed.{objectNo}
 use Rattle.state.specs.Bytes.{tagOf}
-use Rattle.state.specs.State.{Object, body, directory, endpoint, firstOf, free, placesOf, process, shapeOf, table}
+use Rattle.state.specs.State.{Object, body, directory, endpoint, firstOf, free, placesOf, process, table}
 use Rattle.words.specs.Fields.{slot}
 use Rattle.kept.specs.Names.{Blank}
 
@@ -27,15 +26,6 @@ tagged (endpoint c b) i h = record { low = λ z. omega arith; high = λ z. refl 
 
 pub tag-of : (o : Object) (i : ℕ) → objectNo o ≡ suc i → 2 ≤ tagOf o
 tag-of o i h = elim (decLt (objectNo o) 3) [ yes l ↦ omega (arith, tagged o i h .low (omega arith)) | no n ↦ omega (arith, tagged o i h .high (omega arith)) ]
-
--- only a directory is top
-pub with-top : (o : Object) → shapeOf o .top ≡ true → objectNo o ≡ 2
-with-top free h = absurd (false≢true h)
-with-top (body f) h = absurd (false≢true h)
-with-top (table ps) h = absurd (false≢true h)
-with-top (directory g es) h = refl
-with-top (process t d) h = absurd (false≢true h)
-with-top (endpoint c b) h = absurd (false≢true h)
 
 -- only a table holds rights
 pub no-place : (o : Object) → objectNo o ≢ 1 → (e : ℕ) → getD (placesOf o) e Blank ≡ Blank

@@ -7,6 +7,7 @@ use borrow.Author.Tests.{lt-ltb}
 use Rattle.passed.proofs.Stand.{held-right}
 use Rattle.passed.specs.Passed.{Delegation, Freezing, Removal}
 use Rattle.rules.proofs.Facts.{right-close}
+use Rattle.rules.proofs.Inside.{laid-out}
 use Rattle.rules.specs.Calls.{askedFlags}
 use Rattle.rules.specs.Commit.{commit, froze}
 use Rattle.rules.specs.Formed.{Formed, RightFormed}
@@ -17,7 +18,7 @@ use Rattle.words.proofs.Flags.{subset-le}
 use Rattle.words.proofs.Tests.{and-both, and-left, and-right}
 use Rattle.words.specs.Tests.{_&_}
 use Rattle.kept.specs.Names.{Blank, Capability, Fill, Freeze, Frozen, Holds, Origin, Place, Remove, Root, Slot, Spot, Under, Words}
-use Rattle.kept.proofs.Base.{base, laid-out}
+use Rattle.kept.proofs.Base.{base}
 use Rattle.kept.proofs.Childless.{childless-fits}
 use Rattle.kept.proofs.Descent.{Fits, fits-frozen, of-fits, reaches-right}
 use Rattle.kept.proofs.Grants.{grant-ends, grant-flags, grant-names}

@@ -12,6 +12,7 @@ use lib.Seq.{getD-set-other, getD-set-same}
 use borrow.Author.Tests.{eq-eqb, eqb-true, le-leb, leb-true, lt-ltb, ltb-true}
 use Rattle.passed.proofs.Stand.{stands-found}
 use Rattle.passed.specs.Passed.{Becomes, PositionSet}
+use Rattle.rules.proofs.Inside.{laid-out, stands-inside}
 use Rattle.rules.specs.Commit.{commit}
 use Rattle.rules.specs.Formed.{Formed}
 use Rattle.rules.specs.WellFormed.{framed, geometric, hangs, objectNo, objectOk, positionOk, still}
@@ -21,10 +22,8 @@ use Rattle.words.proofs.Flags.{subset-le}
 use Rattle.words.proofs.Tests.{all-at, all-of, and-both, and-left, and-right}
 use Rattle.words.specs.Sizes.{slotsFor}
 use Rattle.kept.specs.Names.{Child, Empty, Page, Position, SetPosition, Slot}
-use Rattle.kept.proofs.Base.{laid-out}
 use Rattle.kept.proofs.Frames.{frame-multiple, frame-small}
 use Rattle.kept.proofs.Put.{put-formed}
-use Rattle.kept.proofs.Slots.{in-slots}
 
 module _ (st : State) (w : Formed (still st)) where
   -- ---- a directory that has a position
@@ -39,7 +38,7 @@ module _ (st : State) (w : Formed (still st)) where
   shaped d i h =
       let is = is-directory (objAt st d) i h in
       let number : objectNo (objAt st d) ≡ 2 = ap objectNo is in
-      let k : objectOk (still st) d (directory (shapeAt st d) (positionsOf (objAt st d))) ≡ true = sym (ap (objectOk (still st) d) is) ∙ w .objects (d .0) (in-slots (still st) (laid-out w) d 1 number) in
+      let k : objectOk (still st) d (directory (shapeAt st d) (positionsOf (objAt st d))) ≡ true = sym (ap (objectOk (still st) d) is) ∙ w .objects (d .0) (stands-inside (still st) (laid-out w) d 1 number) in
       let k₁ = and-right _ _ k in
       let k₂ = and-right _ _ k₁ in
       record { geometry = and-left _ _ k; start = and-left _ _ k₁; count = eqb-true _ _ (and-left _ _ k₂); each = all-at _ _ (and-right _ _ k₂) }

@@ -9,6 +9,7 @@ use native.Mathlib.Decide.{ℕ-discrete}
 use native.Mathlib.Omega.{arith}
 use lib.ListN.{getD, length}
 use lib.Seq.{getD-set-other, getD-set-same}
+use Rattle.rules.proofs.Inside.{laid-out, stands-inside}
 use Rattle.rules.specs.Formed.{Formed}
 use Rattle.rules.specs.WellFormed.{isRootOf, objectNo, objectOk, one, right, rightOk, rootsOf}
 use Rattle.state.proofs.LaidAfter.{laid-put}
@@ -18,11 +19,9 @@ use Rattle.words.proofs.Tests.{sum-same}
 use Rattle.words.specs.Fields.{slot}
 use Rattle.words.specs.Tests.{sumBelow}
 use Rattle.kept.specs.Names.{Blank, Holds, Place, Slot, Spot}
-use Rattle.kept.proofs.Base.{laid-out}
 use Rattle.kept.proofs.Descent.{fits-same}
 use Rattle.kept.proofs.Objects.{tag-of}
 use Rattle.kept.proofs.Roots.{formed-same}
-use Rattle.kept.proofs.Slots.{in-slots}
 use Rattle.kept.proofs.Stay.{Like, like-eq, object-alike, right-alike, spot-alike}
 
 module _ (st : State) (w : Laid st) (d : Slot) (o : Object) (hd : d .0 < 256) (l : Like o (objAt st d)) where
@@ -47,7 +46,7 @@ module _ (st : State) (w : Formed st) (d : Slot) (x : Object) (is : objAt st d �
   l = subst (Like o) (sym is) alike
 
   hd : d .0 < 256
-  hd = in-slots st (laid-out w) d i (ap objectNo is ∙ number)
+  hd = stands-inside st (laid-out w) d i (ap objectNo is ∙ number)
 
   here : objAt st′ d ≡ o
   here = put-here st (laid-out w) d o hd l

@@ -5,14 +5,14 @@ use mathlib.Core.Logic.{inl, inr, _⊎_}
 use mathlib.Core.Path.{ap, refl, subst, sym, _∙_, _≡_}
 use Prim.Native.Nat.{_*_, _+_, _-_, _/_, _<_, suc, zero, ℕ, _≤_}
 use native.Mathlib.Decide.{decLt}
-use native.Mathlib.Nat.{le-of-eq, le-trans}
 use native.Mathlib.Omega.{arith}
 use lib.ListN.{List·getD-eq-default, getD}
+use Rattle.rules.proofs.Inside.{stands-inside}
 use Rattle.rules.specs.Places.{spot}
 use Rattle.rules.specs.WellFormed.{objectNo}
 use Rattle.state.proofs.Run.{object-part}
 use Rattle.state.proofs.Sizes.{goes-body, lay-suc, lay-zero}
-use Rattle.state.proofs.Write.{is-table, object-inside}
+use Rattle.state.proofs.Write.{is-table}
 use Rattle.state.specs.Bytes.{tagOf}
 use Rattle.state.specs.Layout.{Laid, lay}
 use Rattle.state.specs.State.{Object, State, body, directory, endpoint, entriesIn, firstOf, free, objAt, placeAt, placeNumber, placeNumbered, placesOf, process, sizeOf, spotNumbered, table}
@@ -20,7 +20,6 @@ use Rattle.words.specs.Fields.{slot}
 use Rattle.words.specs.Rights.{isBlank}
 use Rattle.words.specs.Sizes.{slotsFor}
 use Rattle.kept.specs.Names.{Blank, Capability, Holds, Slot, Spot}
-use Rattle.kept.proofs.Objects.{tag-of}
 
 -- what goes on in slot i goes on from an object that reaches it
 abbrev From : List Object → ℕ → ℕ → Slot → ℕ → Slot → Type 0
@@ -62,18 +61,8 @@ holds-in st t e c h = elim (decLt e (entriesIn st t)) [
 ]
 
 module _ (st : State) (w : Laid st) where
-  -- ---- nothing stands beyond the 256 slots
-  pub in-slots : (o : Slot) (i : ℕ) → objectNo (objAt st o) ≡ suc i → o .0 < 256
-  in-slots o i h = object-inside st w o (λ z. omega (arith, tag-of (objAt st o) i h))
-
   pub entries-in : (t : Slot) (e : ℕ) → e < entriesIn st t → t .0 < 256
-  entries-in t e h = in-slots t 0 (ap objectNo (is-table (objAt st t) e h))
-
-  pub far-blank : (n : ℕ) → 512 ≤ n → placeNumbered st n ≡ Blank
-  far-blank n h = rw (none (n / 2) (omega arith)) (rw (none (n / 2) (omega arith)) refl)
-    where
-      none : (k : ℕ) → 256 ≤ k → objAt st (slot k) ≡ free
-      none k l = List·getD-eq-default (st .slots) free (le-trans (le-of-eq (w .room)) l)
+  entries-in t e h = stands-inside st w t 0 (ap objectNo (is-table (objAt st t) e h))
 
   -- ---- a slot that goes on: of what, and within it
   pub record Part (i : ℕ) (g : Slot) : Type 0 where

@@ -13,12 +13,12 @@ use Rattle.words.specs.Tests.{_&_}
 use Rattle.words.proofs.Tests.{all-at, all-of, and-both, and-left, and-right}
 use Rattle.state.specs.Layout.{Laid}
 use Rattle.state.specs.State.{Object, State, body, directory, endpoint, entriesIn, firstOf, free, objAt, placeAt, placeNumbered, placesOf, positionsOf, process, shapeOf, sizeOf, spotNumbered, table}
+use Rattle.rules.proofs.Inside.{top-stands}
 use Rattle.rules.specs.WellFormed.{descends, endsOk, hangs, names, objectNo, objectOk, positionOk, right, rightOk, runs, whole}
 use Rattle.rules.proofs.Facts.{right-close, right-open}
 use Rattle.kept.specs.Names.{Blank, Capability, Child, Directory, Empty, Endpoint, Function, Geometry, Holds, Kind, Memory, Origin, Page, Place, Position, Process, Root, Slot, Table, Under}
 use Rattle.kept.proofs.Base.{Base}
 use Rattle.kept.proofs.Descent.{Fits, fits-of, fits-same, of-fits}
-use Rattle.kept.proofs.Objects.{with-top}
 
 pub record Like (n o : Object) : Type 0 where
   pub number : objectNo n ≡ objectNo o
@@ -100,7 +100,7 @@ module _ (st st′ : State) (Ne : Slot → Type 0) (fix : (k : Slot) → 0 < obj
   runs-stay t d a b h =
       let x = and-left _ _ h in
       let y = and-right _ _ h in
-      let top : objectNo (objAt st d) ≡ 2 = with-top (objAt st d) y in
+      let top : objectNo (objAt st d) ≡ 2 = top-stands (objAt st d) y in
       and-both _ _ (ap (λ (n : ℕ). eqb n 1) (fixed t 0 x a .number) ∙ x) (ap (λ (g : Geometry). g .top) (fix d (omega arith) b .shape) ∙ y)
 
   position-stay : (g : Geometry) (p : Position) → ((o : Slot) (x : ℕ) → p ≡ Child o x → Ne o) → positionOk st g p ≡ true → positionOk st′ g p ≡ true

@@ -4,7 +4,9 @@ use mathlib.Core.Path.{ap, refl, subst, sym, _∙_, _≡_}
 use Prim.Native.Nat.{_+_, ℕ}
 use native.Mathlib.Omega.{arith}
 use borrow.Author.Tests.{eq-eqb}
+use Rattle.rules.proofs.Chain.{Reaches, child, root}
 use Rattle.rules.proofs.Facts.{right-open}
+use Rattle.rules.specs.Chains.{codeOf, codes, originCode}
 use Rattle.rules.specs.Places.{spot}
 use Rattle.rules.specs.WellFormed.{descends, isRootOf, one, parentFits, right, rightOk, rootsOf}
 use Rattle.state.specs.State.{State, entriesIn, placeAt, placeNumber, placeNumbered, spotNumbered}
@@ -15,7 +17,6 @@ use Rattle.words.specs.Rights.{isRoot, kindNo, objectOf}
 use Rattle.words.specs.Tests.{sumBelow}
 use Rattle.kept.specs.Names.{Blank, Capability, Holds, Origin, Place, Root, Slot, Spot, Under}
 use Rattle.kept.proofs.Base.{Base}
-use Rattle.kept.proofs.Chain.{Reaches, child, code, originCode, root}
 use Rattle.kept.proofs.Descent.{fits-of, reaches-right}
 use Rattle.kept.proofs.Slots.{entries-in, holds-in, numbered}
 
@@ -35,15 +36,16 @@ module _ (st : State) (w : Base st) (o : Slot) (n : ℕ) (none : rootsOf st n o 
       let z : one (isRootOf n o (placeAt st t e)) ≡ 1 = ap (λ (x : Place). one (isRootOf n o x)) h ∙ ap one r in
       omega (arith, inner, outer, z, none)
 
-  no-right : (p : ℕ) → Reaches (λ y. code (placeNumbered st y)) p → (c : Capability) → placeNumbered st p ≡ Holds c → kindNo (c .kind) ≡ n → objectOf (c .kind) .0 ≡ o .0 → ⊥
+  no-right : (p : ℕ) → Reaches (codes st) p → (c : Capability) → placeNumbered st p ≡ Holds c → kindNo (c .kind) ≡ n → objectOf (c .kind) .0 ≡ o .0 → ⊥
+  unfolding codes
   no-right p (root h) c q e f =
-      no-root (spotNumbered st p .table) (spotNumbered st p .entry) c q (and-both _ _ (go (c .origin) (sym (ap code q) ∙ h)) (and-both _ _ (eq-eqb _ _ e) (eq-eqb _ _ f)))
+      no-root (spotNumbered st p .table) (spotNumbered st p .entry) c q (and-both _ _ (go (c .origin) (sym (ap codeOf q) ∙ h)) (and-both _ _ (eq-eqb _ _ e) (eq-eqb _ _ f)))
     where
       go : (r : Origin) → originCode r ≡ 1 → isRoot r ≡ true
       go Root k = refl
       go (Under x) k = absurd (omega arith)
   no-right p (child {p = r} h rest) c q e f =
-      up (placeNumbered st r) refl (go (c .origin) (sym (ap code q) ∙ h) (right-open st c (right-ok p c q) .descent)) (λ d. no-right r rest d)
+      up (placeNumbered st r) refl (go (c .origin) (sym (ap codeOf q) ∙ h) (right-open st c (right-ok p c q) .descent)) (λ d. no-right r rest d)
     where
       go : (a : Origin) → originCode a ≡ r + 2 → descends st c a ≡ true → parentFits c (placeNumbered st r) ≡ true
       go Root k d = absurd (omega arith)

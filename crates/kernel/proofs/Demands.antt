@@ -1,11 +1,14 @@
--- Demand 1: every answer of a call is listed, and a refusal leaves every byte as it was. Tightness: each statement determines its result.
-use mathlib.Core.Bool.{Bool, false, true}
+-- Demand 1: every answer of a call is listed, and a refusal leaves every byte as it was. Tightness: each statement determines its result. The
+-- check says yes exactly when −19 would not be given, by a tick or by any call.
+use mathlib.Core.Bool.{Bool, false, false≢true, true}
 use mathlib.Core.List.{List}
 use mathlib.Core.Path.{_≡_, ap, refl, sym, _∙_}
 use Prim.Native.Nat.{ℕ}
 use native.Mathlib.Omega.{arith}
 use lib.IntN.{negsuc, pos, ℤ}
 use Rattle.committing.proofs.Ready.{answer-fits, ready-plan}
+use Rattle.passed.proofs.Given.{Sayable, isBadState}
+use Rattle.passed.proofs.Walks.{plan-given}
 use Rattle.rules.specs.Buffer.{bootOutcome, callOutcome, outcome, refused, sound, tickOutcome}
 use Rattle.rules.specs.Calls.{plan}
 use Rattle.state.specs.Read.{read}
@@ -63,10 +66,23 @@ module _ (b : List ℕ) where
   pub check-determined : (x y : Bool) → x ≡ sound b → y ≡ sound b → x ≡ y
   check-determined x y p q = p ∙ sym q
 
-  -- "the check says yes exactly when −19 would not be given": by a tick, and by any call
+  -- "the check says yes exactly when −19 would not be given": by a tick
   pub check-ticks : (sound b ≡ true → tickOutcome b .reply ≡ pos 0) × (sound b ≡ false → tickOutcome b .reply ≡ number BadState)
   unfolding tickOutcome
   check-ticks = (λ h. rw h, λ h. rw h)
+
+  -- and by any call: no plan says −19
+  unsaid : (r : Try Action) → Sayable r → outcome b r .reply ≡ number BadState → ⊥
+  unsaid (no! r) s h = false≢true (sym s ∙ ap isBadState h)
+  unsaid (ok! a) s h = false≢true (ap isBadState h)
+
+  pub check-calls : (caller : ℕ) (w : Words) → (callOutcome b caller w .reply ≡ number BadState → sound b ≡ false) × (sound b ≡ false → callOutcome b caller w .reply ≡ number BadState)
+  unfolding callOutcome
+  check-calls caller w = (go (sound b), λ h. rw h)
+    where
+      go : (t : Bool) → choose t (outcome b (plan (read b) caller w)) (refused b) .reply ≡ number BadState → t ≡ false
+      go true h = absurd (unsaid (plan (read b) caller w) (plan-given (read b) caller w .sayable) h)
+      go false h = refl
 
 -- packing's answer says what it is, so that it too is determined
 told-same : (x y : Packing) → told x ≡ told y → x ≡ y

@@ -7,16 +7,17 @@ use lib.Dec.{ltb}
 use borrow.Author.Tests.{eqb-true, leb-true, ltb-true}
 use Rattle.rules.specs.Addresses.{addressArg}
 use Rattle.rules.specs.Numbers.{argument, asDirectory, asEndpoint, asMemory, asProcess, asTable, directoryArg, endpointArg, filled, lookup, memoryArg, processArg, rightAt, tableArg, topArg, twoStep}
-use Rattle.rules.specs.Places.{frozenAt, hasChildren, hasUsers, spot, thawedAt, toDelete, toFill, toRemove, usedAt}
+use Rattle.rules.specs.Places.{frozenAt, hasChildren, hasUsers, quiet, spot, thawedAt, toDelete, toFill, toRemove, usedAt}
 use Rattle.state.specs.State.{Object, State, body, directory, endpoint, free, isFree, placeAt, process, table}
 use Rattle.words.proofs.Tests.{all-at, and-left, and-right, not-false}
 use Rattle.words.specs.Fields.{capabilityNumber}
+use Rattle.words.specs.Refusals.{number}
 use Rattle.words.specs.Rights.{isBlank, isRoot}
 use Rattle.words.specs.Try.{Try}
 use Rattle.passed.specs.Found.{By, Found, Plot, Stands, Vacant, spanned, stretched}
 use Rattle.passed.specs.Names.{Blank, CapNull, CapType, Capability, CapabilityNumber, Endpoint, Holds, KernelAddress, Kind, Place, Process, Refusal, Slot, Spot, Stretch, Table}
 use Rattle.passed.specs.Passed.{ByTop}
-use Rattle.passed.proofs.Given.{Given, any, bind, given, refused, seq, test, then}
+use Rattle.passed.proofs.Given.{Given, asked, bind, given, isBadState, refused, seq, test, then}
 use Rattle.passed.proofs.OfKind.{is-directory, is-endpoint, is-memory, is-process, is-table}
 
 pub is-blank : (p : Place) → isBlank p ≡ true → p ≡ Blank
@@ -25,18 +26,18 @@ is-blank (Holds c) h = absurd (false≢true h)
 
 module _ (st : State) (t : Slot) where
   -- ---- capability numbers
-  is-held : (r : Refusal) (p : Place) → Given (filled r p) (λ c. p ≡ Holds c)
-  is-held r Blank = refused
-  is-held r (Holds c) = given refl
+  is-held : (r : Refusal) → isBadState (number r) ≡ false → (p : Place) → Given (filled r p) (λ c. p ≡ Holds c)
+  is-held r s Blank = refused s
+  is-held r s (Holds c) = given refl
 
   right-at : (u : Slot) (e : ℕ) → Given (rightAt st u e) (Stands st (spot u e))
   unfolding rightAt
-  right-at u e = test _ λ h. test _ λ h₁. then (is-held CapType (placeAt st u e)) λ c q. record { below = ltb-true _ _ h; holds = q }
+  right-at u e = test _ refl λ h. test _ refl λ h₁. then (is-held CapType refl (placeAt st u e)) λ c q. record { below = ltb-true _ _ h; holds = q }
 
   two-steps : (v : ℕ) → Given (twoStep st t v) (Found st t)
   unfolding twoStep
   two-steps v =
-      test _ λ h. bind (right-at t (v / 256)) λ c h₁. bind (is-table (c .kind)) λ o h₂. then (right-at o (v % 128)) λ d h₃.
+      test _ refl λ h. bind (right-at t (v / 256)) λ c h₁. bind (is-table (c .kind)) λ o h₂. then (right-at o (v % 128)) λ d h₃.
       record { at = o; entry = v % 128; way = inr (record { entry = v / 256; right = c; holds = h₁ .holds; kind = h₂ }); below = h₃ .below; holds = h₃ .holds }
 
   pub looked-up : (v : CapabilityNumber) → Given (lookup st t v) (Found st t)
@@ -50,7 +51,7 @@ module _ (st : State) (t : Slot) where
   by : {A : Type 0} (kind : Kind → Try A) (K : A → Kind) → ((k : Kind) → Given (kind k) (λ a. k ≡ K a)) → (v f : ℕ) → Given (argument kind st t v f) (λ a. By st t (K a))
   unfolding argument
   by kind K is v f =
-      bind (looked-up (capabilityNumber v)) λ c h. bind (is (c .kind)) λ a q. test _ λ z. given (record { right = c; found = h; kind = q })
+      bind (looked-up (capabilityNumber v)) λ c h. bind (is (c .kind)) λ a q. test _ refl λ z. given (record { right = c; found = h; kind = q })
 
   pub by-table : (v f : ℕ) → Given (tableArg st t v f) (λ o. By st t (Table o))
   by-table = by asTable Table is-table
@@ -69,7 +70,7 @@ module _ (st : State) (t : Slot) where
 
   pub by-top : (v f : ℕ) → Given (topArg st t v f) (ByTop st t)
   unfolding topArg
-  by-top v f = bind (by-directory v f) λ d h. test _ λ q. given (record { span = d; by = h; is = refl; top = q })
+  by-top v f = bind (by-directory v f) λ d h. test _ refl λ q. given (record { span = d; by = h; is = refl; top = q })
 
   -- ---- places
   -- the place that an entry number of the table at u means
@@ -79,19 +80,23 @@ module _ (st : State) (t : Slot) where
 
   pub filling : (u : Slot) (e : ℕ) → Given (toFill st u e) (Filling u e)
   unfolding toFill
-  filling u e = test _ λ h. test _ λ h₁. test _ λ h₂. given (record { is = refl; vacant = record { below = ltb-true _ _ h; blank = is-blank _ h₂ } })
+  filling u e = test _ refl λ h. test _ refl λ h₁. test _ refl λ h₂. given (record { is = refl; vacant = record { below = ltb-true _ _ h; blank = is-blank _ h₂ } })
 
   used : (u : Slot) (e : ℕ) → Given (usedAt st u e) (Stands st (spot u e))
   unfolding usedAt
-  used u e = test _ λ h. then (is-held CapNull (placeAt st u e)) λ c q. record { below = ltb-true _ _ h; holds = q }
+  used u e = test _ refl λ h. then (is-held CapNull refl (placeAt st u e)) λ c q. record { below = ltb-true _ _ h; holds = q }
 
   pub thawed : (u : Slot) (e : ℕ) → Given (thawedAt st u e) (Stands st (spot u e))
   unfolding thawedAt
-  thawed u e = bind (used u e) λ c h. test _ λ q. given h
+  thawed u e = bind (used u e) λ c h. test _ refl λ q. given h
 
   frozen : (u : Slot) (e : ℕ) → Given (frozenAt st u e) (Stands st (spot u e))
   unfolding frozenAt
-  frozen u e = bind (used u e) λ c h. test _ λ q. given h
+  frozen u e = bind (used u e) λ c h. test _ refl λ q. given h
+
+  aged : (c : Capability) → Given (quiet st c) (λ x. Unit {0})
+  unfolding quiet
+  aged c = asked _ _ refl
 
   pub record Removing (u : Slot) (e : ℕ) (p : Spot) : Type 0 where
     pub is : spot u e ≡ p
@@ -102,7 +107,7 @@ module _ (st : State) (t : Slot) where
 
   pub removing : (u : Slot) (e : ℕ) → Given (toRemove st u e) (Removing u e)
   unfolding toRemove
-  removing u e = bind (frozen u e) λ c h. seq any λ b z. test _ λ h₁. test _ λ h₂.
+  removing u e = bind (frozen u e) λ c h. seq (aged c) λ b z. test _ refl λ h₁. test _ refl λ h₂.
       given (record { is = refl; right = c; stands = h; child = not-false _ h₁; childless = not-false _ h₂ })
 
   -- the root at a place, of a kind that Q tells
@@ -116,7 +121,7 @@ module _ (st : State) (t : Slot) where
 
   pub deleting : (kind : Kind → Try Slot) (Q : Kind → Slot → Type 0) → ((k : Kind) → Given (kind k) (Q k)) → (u : Slot) (e : ℕ) → Given (toDelete kind st u e) (Deleting Q u e)
   unfolding toDelete
-  deleting kind Q is u e = bind (frozen u e) λ c h. bind (is (c .kind)) λ o q. seq any λ b z. test _ λ h₁. test _ λ h₂. test _ λ h₃.
+  deleting kind Q is u e = bind (frozen u e) λ c h. bind (is (c .kind)) λ o q. seq (aged c) λ b z. test _ refl λ h₁. test _ refl λ h₂. test _ refl λ h₃.
       given (record { right = c; stands = h; kind = q; root = h₁; childless = not-false _ h₂; unused = not-false _ h₃ })
 
   -- ---- addresses
@@ -130,7 +135,7 @@ module _ (st : State) (t : Slot) where
 
   pub plotted : (m : Stretch) (a : KernelAddress) (n : ℕ) → Given (addressArg st m a n) (λ s. Plot st m s n)
   unfolding addressArg
-  plotted m a n = test _ λ h. test _ λ f. given (record {
+  plotted m a n = test _ refl λ h. test _ refl λ f. given (record {
     address = a;
     is = refl;
     aligned = eqb-true _ _ (and-left _ _ h);

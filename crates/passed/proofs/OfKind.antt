@@ -2,7 +2,7 @@
 use mathlib.Core.Path.{refl, _≡_}
 use Prim.Native.Nat.{ℕ}
 use Rattle.rules.specs.Calls.{asDirectoryObject}
-use Rattle.rules.specs.Numbers.{asDirectory, asEndpoint, asMemory, asProcess, asTable}
+use Rattle.rules.specs.Numbers.{asDirectory, asEndpoint, asFunction, asMemory, asProcess, asTable}
 use Rattle.passed.specs.Found.{spanned, stretched}
 use Rattle.passed.specs.Names.{Directory, Endpoint, Function, Kind, Memory, Process, Slot, Table}
 use Rattle.passed.proofs.Given.{Given, bind, given, refused}
@@ -10,47 +10,56 @@ use Rattle.passed.proofs.Given.{Given, bind, given, refused}
 pub is-table : (k : Kind) → Given (asTable k) (λ o. k ≡ Table o)
 unfolding asTable
 is-table (Table o) = given refl
-is-table (Directory o l h) = refused
-is-table (Memory l h) = refused
-is-table (Process o) = refused
-is-table (Endpoint o) = refused
-is-table (Function l h) = refused
+is-table (Directory o l h) = refused refl
+is-table (Memory l h) = refused refl
+is-table (Process o) = refused refl
+is-table (Endpoint o) = refused refl
+is-table (Function l h) = refused refl
 
 pub is-directory : (k : Kind) → Given (asDirectory k) (λ d. k ≡ spanned d)
 unfolding asDirectory
-is-directory (Table o) = refused
+is-directory (Table o) = refused refl
 is-directory (Directory o l h) = given refl
-is-directory (Memory l h) = refused
-is-directory (Process o) = refused
-is-directory (Endpoint o) = refused
-is-directory (Function l h) = refused
+is-directory (Memory l h) = refused refl
+is-directory (Process o) = refused refl
+is-directory (Endpoint o) = refused refl
+is-directory (Function l h) = refused refl
 
 pub is-memory : (k : Kind) → Given (asMemory k) (λ m. k ≡ stretched m)
 unfolding asMemory
-is-memory (Table o) = refused
-is-memory (Directory o l h) = refused
+is-memory (Table o) = refused refl
+is-memory (Directory o l h) = refused refl
 is-memory (Memory l h) = given refl
-is-memory (Process o) = refused
-is-memory (Endpoint o) = refused
-is-memory (Function l h) = refused
+is-memory (Process o) = refused refl
+is-memory (Endpoint o) = refused refl
+is-memory (Function l h) = refused refl
 
 pub is-process : (k : Kind) → Given (asProcess k) (λ o. k ≡ Process o)
 unfolding asProcess
-is-process (Table o) = refused
-is-process (Directory o l h) = refused
-is-process (Memory l h) = refused
+is-process (Table o) = refused refl
+is-process (Directory o l h) = refused refl
+is-process (Memory l h) = refused refl
 is-process (Process o) = given refl
-is-process (Endpoint o) = refused
-is-process (Function l h) = refused
+is-process (Endpoint o) = refused refl
+is-process (Function l h) = refused refl
 
 pub is-endpoint : (k : Kind) → Given (asEndpoint k) (λ o. k ≡ Endpoint o)
 unfolding asEndpoint
-is-endpoint (Table o) = refused
-is-endpoint (Directory o l h) = refused
-is-endpoint (Memory l h) = refused
-is-endpoint (Process o) = refused
+is-endpoint (Table o) = refused refl
+is-endpoint (Directory o l h) = refused refl
+is-endpoint (Memory l h) = refused refl
+is-endpoint (Process o) = refused refl
 is-endpoint (Endpoint o) = given refl
-is-endpoint (Function l h) = refused
+is-endpoint (Function l h) = refused refl
+
+pub is-function : (k : Kind) → Given (asFunction k) (λ f. k ≡ Function (f .low) (f .high))
+unfolding asFunction
+is-function (Table o) = refused refl
+is-function (Directory o l h) = refused refl
+is-function (Memory l h) = refused refl
+is-function (Process o) = refused refl
+is-function (Endpoint o) = refused refl
+is-function (Function l h) = given refl
 
 -- the object of a directory right
 pub record ADirectory (k : Kind) (o : Slot) : Type 0 where

@@ -5,18 +5,23 @@ use mathlib.Core.Path.{ap, subst, sym, _∙_, _≡_}
 use Prim.Native.Nat.{_+_, _<_, ℕ, _≤_}
 use native.Mathlib.Omega.{arith}
 use borrow.Author.Tests.{eqb-true, leb-true}
-use Rattle.rules.proofs.Facts.{right-open}
-use Rattle.rules.proofs.Held.{stands-inside}
+use Rattle.rules.proofs.Facts.{right-open, wf-open}
+use Rattle.rules.proofs.Inside.{laid-out, stands-inside}
 use Rattle.rules.specs.Addresses.{slotOf}
 use Rattle.rules.specs.Formed.{Formed, RightFormed}
+use Rattle.rules.specs.Numbers.{memoryArg}
 use Rattle.rules.specs.Places.{spot}
-use Rattle.rules.specs.WellFormed.{endsOk, names, objectNo, right, rightOk, still}
+use Rattle.rules.specs.WellFormed.{endsOk, names, objectNo, right, rightOk, still, wf}
 use Rattle.state.proofs.Write.{is-table}
 use Rattle.state.specs.State.{State, objAt}
 use Rattle.words.proofs.Tests.{and-left, and-right}
+use Rattle.words.specs.Answers.{toldStretch}
 use Rattle.words.specs.Sizes.{kernelEnd, kernelStart, slotCount}
 use Rattle.passed.specs.Found.{By, Plot, Stands, stretched}
 use Rattle.passed.specs.Names.{Capability, Directory, Endpoint, Function, Kind, Memory, Process, Slot, Spot, Stretch, Table}
+use Rattle.passed.proofs.Arguments.{by-memory}
+use Rattle.words.specs.declared.answers.StretchAnswer.{StretchAnswer}
+use Rattle.words.specs.declared.answers.StretchAnswer.the-variants as stretch
 
 -- what a right of the kind k shows
 abbrev pub Standing : State → Kind → Type 0
@@ -31,7 +36,7 @@ module _ (st : State) (w : Formed (still st)) where
   -- a right in a place is well formed
   pub held-right : {p : Spot} {c : Capability} → Stands st p c → RightFormed (still st) c
   held-right {p} {c} h =
-      let below : p .table .0 < slotCount = stands-inside (still st) w (p .table) 0 (ap objectNo (is-table (objAt st (p .table)) (p .entry) (h .below))) in
+      let below : p .table .0 < slotCount = stands-inside (still st) (laid-out w) (p .table) 0 (ap objectNo (is-table (objAt st (p .table)) (p .entry) (h .below))) in
       right-open (still st) c (sym (ap (right (rightOk (still st))) (h .holds)) ∙ w .rights (p .table .0) below (p .entry) (h .below))
 
   standing : (k : Kind) → names (still st) k ≡ true → endsOk (still st) k ≡ true → Standing st k
@@ -58,3 +63,7 @@ module _ (st : State) (w : Formed (still st)) where
       let r = stands-found b in
       let is : slotOf (p .address) .0 ≡ s .0 = ap (λ (x : Slot). x .0) (p .is) in
       omega (arith, r .0, r .1)
+
+-- what a creation asks of its memory before its address is judged
+pub memory-found : (st : State) (t : Slot) (v f : ℕ) {a : StretchAnswer} {m : Stretch} → wf st ≡ true → toldStretch a ≡ memoryArg st t v f → a ≡ stretch.Found m → (kernelStart ≤ m .low .0) × (m .high .0 ≤ kernelEnd)
+memory-found st t v f {m = m} w told found = stands-found st (wf-open st w .shape) (by-memory st t v f .of m (sym told ∙ ap toldStretch found))

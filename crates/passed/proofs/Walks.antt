@@ -12,19 +12,19 @@ use Rattle.rules.specs.Calls.{asDirectoryObject, asPage, askedFlags, askedKind,
 use Rattle.rules.specs.Numbers.{asEndpoint, asProcess, asTable}
 use Rattle.rules.specs.Places.{spot}
 use Rattle.rules.specs.WellFormed.{right}
-use Rattle.state.specs.State.{Object, State, body, directory, endpoint, free, objAt, placeNumber, positionsIn, process, table}
-use Rattle.words.proofs.Judged.{bind-ok}
+use Rattle.state.specs.State.{Object, State, body, directory, endpoint, free, objAt, placeNumber, positionAt, positionsIn, process, table}
 use Rattle.words.proofs.Tests.{and-left, and-right, not-false}
 use Rattle.words.specs.Fields.{D0, D1, callNumber, slot}
+use Rattle.words.specs.Refusals.{number}
 use Rattle.words.specs.Rights.{inside, someRange, subset}
 use Rattle.words.specs.Tests.{choose}
 use Rattle.words.specs.Try.{Try, ok!}
 use Rattle.passed.specs.Found.{By, Plot, spanned, stretched}
-use Rattle.passed.specs.Names.{Action, Capability, Child, Empty, Endpoint, Kind, Page, Position, Process, Refusal, Slot, Span, Spot, Table, Thawed, Under, Words}
+use Rattle.passed.specs.Names.{Action, Capability, Child, Empty, Endpoint, Kind, Page, PgtMap, Position, Process, Refusal, Slot, Span, Spot, Table, Thawed, Under, Words}
 use Rattle.passed.specs.Passed.{Becomes, Creation, Deletion, Doomed, Mapped, Passed, PassedCall, PositionSet, Removal, a-directory, a-process, a-table, an-endpoint}
 use Rattle.passed.proofs.Arguments.{Deleting, Filling, by-directory, by-endpoint, by-memory, by-process, by-table, by-top, deleting, filling, looked-up, plotted, removing, thawed}
-use Rattle.passed.proofs.Given.{Given, any, bind, given, refused, seq, test}
-use Rattle.passed.proofs.OfKind.{ADirectory, is-directory-object, is-endpoint, is-process, is-table}
+use Rattle.passed.proofs.Given.{Given, bind, given, isBadState, refused, seq, test, then}
+use Rattle.passed.proofs.OfKind.{ADirectory, is-directory-object, is-endpoint, is-function, is-process, is-table}
 
 module _ (st : State) (t : Slot) where
   -- a creation's common part
@@ -35,7 +35,7 @@ module _ (st : State) (t : Slot) where
   create-table : (w : Words) → Given (createTable st t w) (Passed st t w)
   unfolding createTable
   create-table w =
-      bind (by-table st t _ _) λ c rc. bind (by-memory st t _ _) λ m hm. bind (filling st t c _) λ p hp. test _ λ hn. bind (plotted st t m _ _) λ s hs.
+      bind (by-table st t _ _) λ c rc. bind (by-memory st t _ _) λ m hm. bind (filling st t c _) λ p hp. test _ refl λ hn. bind (plotted st t m _ _) λ s hs.
       given (record { creation = creation c m _ p s _ rc hm hp hs; some = leb-true _ _ (and-left _ _ hn); most = leb-true _ _ (and-right _ _ hn) })
 
   -- a deletion's common part, and what its kind shows
@@ -45,7 +45,7 @@ module _ (st : State) (t : Slot) where
   delete-table : (w : Words) → Given (deleteTable st t w) (Passed st t w)
   unfolding deleteTable
   delete-table w =
-      bind (by-table st t _ _) λ c rc. bind (deleting st t asTable (λ k o. k ≡ Table o) is-table c _) λ o d. test _ λ h.
+      bind (by-table st t _ _) λ c rc. bind (deleting st t asTable (λ k o. k ≡ Table o) is-table c _) λ o d. test _ refl λ h.
       given (deletion _ c _ o rc d (a-table (d .kind) h))
 
   -- what a grant asks of the right that it comes from, and what it is
@@ -60,7 +60,7 @@ module _ (st : State) (t : Slot) where
 
   grant : (w : Words) (c : Capability) (p : ℕ) → Given (granted c p w) (Grown w c p)
   unfolding granted
-  grant w c p = test _ λ h. test _ λ h₁. given (record {
+  grant w c p = test _ refl λ h. test _ refl λ h₁. given (record {
     kind = refl;
     flags = refl;
     fewer = and-right _ _ h;
@@ -107,20 +107,20 @@ module _ (st : State) (t : Slot) where
   create-directory : (w : Words) → Given (createDirectory st t w) (Passed st t w)
   unfolding createDirectory
   create-directory w =
-      bind (by-table st t _ _) λ c rc. bind (by-memory st t _ _) λ m hm. bind (filling st t c _) λ p hp. test _ λ hg. bind (plotted st t m _ _) λ s hs.
+      bind (by-table st t _ _) λ c rc. bind (by-memory st t _ _) λ m hm. bind (filling st t c _) λ p hp. test _ refl λ hg. bind (plotted st t m _ _) λ s hs.
       given (record { creation = creation c m _ p s _ rc hm hp hs; shape = hg; start = omega arith })
 
   delete-directory : (w : Words) → Given (deleteDirectory st t w) (Passed st t w)
   unfolding deleteDirectory
   delete-directory w =
-      bind (by-table st t _ _) λ c rc. bind (deleting st t asDirectoryObject ADirectory is-directory-object c _) λ o d. test _ λ h. test _ λ h₁.
+      bind (by-table st t _ _) λ c rc. bind (deleting st t asDirectoryObject ADirectory is-directory-object c _) λ o d. test _ refl λ h. test _ refl λ h₁.
       given (deletion _ c _ o rc d (a-directory (d .kind .low) (d .kind .high) (d .kind .is) (not-false _ h) (not-false _ h₁)))
 
   -- a page, and that it is one
-  a-page : (r : Refusal) (x : Position) → Given (asPage r x) (λ f. x ≡ Page (f .frame) (f .flags))
-  a-page r Empty = refused
-  a-page r (Page f x) = given refl
-  a-page r (Child o x) = refused
+  a-page : (r : Refusal) → isBadState (number r) ≡ false → (x : Position) → Given (asPage r x) (λ f. x ≡ Page (f .frame) (f .flags))
+  a-page r s Empty = refused s
+  a-page r s (Page f x) = given refl
+  a-page r s (Child o x) = refused s
 
   position-set : (d : Span) (i : ℕ) (x : Position) → By st t (spanned d) → i < positionsIn st (d .object) → Becomes st t (d .object) x → PositionSet st t (d .object) i x
   position-set d i x hd l b = record { span = d; by = hd; is = refl; below = l; becomes = b }
@@ -128,8 +128,8 @@ module _ (st : State) (t : Slot) where
   map-page : (w : Words) → Given (mapPage st t w) (Passed st t w)
   unfolding mapPage
   map-page w =
-      bind (by-directory st t _ _) λ d hd. bind (by-directory st t _ _) λ s hs. test _ λ h. test _ λ h₁. test _ λ h₂. test _ λ h₃. test _ λ h₄.
-      bind (a-page _ _) λ f hf. test _ λ h₅. test _ λ h₆. let
+      bind (by-directory st t _ _) λ d hd. bind (by-directory st t _ _) λ s hs. test _ refl λ h. test _ refl λ h₁. test _ refl λ h₂. test _ refl λ h₃. test _ refl λ h₄.
+      bind (a-page _ refl _) λ f hf. test _ refl λ h₅. test _ refl λ h₆. let
         source : Mapped st t (d .object) (f .frame + D0 (w .p3) * 2 ^ sizeAt st d) (D1 (w .p3)) = record {
           span = s;
           by = hs;
@@ -147,12 +147,14 @@ module _ (st : State) (t : Slot) where
 
   remove-page : (w : Words) → Given (removePage st t w) (Passed st t w)
   unfolding removePage
-  remove-page w = bind (by-directory st t _ _) λ d hd. test _ λ h. test _ λ h₁. seq any λ f z. given (position-set d _ Empty hd (ltb-true _ _ h) tt)
+  remove-page w =
+      bind (by-directory st t _ _) λ d hd. test _ refl λ h. test _ refl λ h₁. seq (a-page PgtMap refl (positionAt st (d .object) (w .p2))) λ f z.
+      given (position-set d _ Empty hd (ltb-true _ _ h) tt)
 
   construct-passed : (w : Words) → Given (construct st t w) (Passed st t w)
   unfolding construct
   construct-passed w =
-      bind (by-directory st t _ _) λ p hp. bind (by-directory st t _ _) λ c hc. test _ λ h. test _ λ h₁. test _ λ h₂. test _ λ h₃. test _ λ h₄. given (record {
+      bind (by-directory st t _ _) λ p hp. bind (by-directory st t _ _) λ c hc. test _ refl λ h. test _ refl λ h₁. test _ refl λ h₂. test _ refl λ h₃. test _ refl λ h₄. given (record {
         span = p;
         by = hp;
         is = refl;
@@ -162,7 +164,7 @@ module _ (st : State) (t : Slot) where
 
   destruct-passed : (w : Words) → Given (destruct st t w) (Passed st t w)
   unfolding destruct
-  destruct-passed w = bind (by-directory st t _ _) λ d hd. test _ λ h. test _ λ h₁. test _ λ h₂. given (position-set d _ Empty hd (ltb-true _ _ h) tt)
+  destruct-passed w = bind (by-directory st t _ _) λ d hd. test _ refl λ h. test _ refl λ h₁. test _ refl λ h₂. given (position-set d _ Empty hd (ltb-true _ _ h) tt)
 
   create-process : (w : Words) → Given (createProcess st t w) (Passed st t w)
   unfolding createProcess
@@ -193,12 +195,12 @@ module _ (st : State) (t : Slot) where
   delete-endpoint : (w : Words) → Given (deleteEndpoint st t w) (Passed st t w)
   unfolding deleteEndpoint
   delete-endpoint w =
-      bind (by-table st t _ _) λ c rc. bind (deleting st t asEndpoint (λ k o. k ≡ Endpoint o) is-endpoint c _) λ o d. test _ λ h.
+      bind (by-table st t _ _) λ c rc. bind (deleting st t asEndpoint (λ k o. k ≡ Endpoint o) is-endpoint c _) λ o d. test _ refl λ h.
       given (deletion _ c _ o rc d (an-endpoint (d .kind) (not-false _ h)))
 
   send-passed : (w : Words) → Given (send st t w) (Passed st t w)
   unfolding send
-  send-passed w = bind (by-endpoint st t _ _) λ e he. test _ λ h. given (record { by = he; counts = inl (refl, ltb-true _ _ h); few = omega arith })
+  send-passed w = bind (by-endpoint st t _ _) λ e he. test _ refl λ h. given (record { by = he; counts = inl (refl, ltb-true _ _ h); few = omega arith })
 
   -- what a receipt takes is below 2^31
   most-few : (n : ℕ) → most n < 2 ^ 31
@@ -211,12 +213,12 @@ module _ (st : State) (t : Slot) where
   receive-passed : (w : Words) → Given (receive st t w) (Passed st t w)
   unfolding receive
   receive-passed w =
-      bind (looked-up st t _) λ c hc. bind (is-endpoint (c .kind)) λ e he. test _ λ h. test _ λ h₁.
+      bind (looked-up st t _) λ c hc. bind (is-endpoint (c .kind)) λ e he. test _ refl λ h. test _ refl λ h₁.
       given (record { by = record { right = c; found = hc; kind = he }; counts = inr (omega arith); few = omega (arith, most-few (w .p2)) })
 
   function-passed : (w : Words) → Given (function st t w) (Passed st t w)
   unfolding function
-  function-passed w = bind any λ c hc. bind any λ f hf. test _ λ h. test _ λ h₁. given (omega arith)
+  function-passed w = bind (looked-up st t _) λ c hc. bind (is-function (c .kind)) λ f hf. test _ refl λ h. test _ refl λ h₁. given (omega arith)
 
   -- ---- by the call's number
   abbrev Call : Type 0
@@ -235,25 +237,27 @@ module _ (st : State) (t : Slot) where
   each-at P (c ∷ cs) (suc n) d h e = each-at P cs n d h (e .1)
 
   pub call-passed : (n : ℕ) (w : Words) → Given (callOf n st t w) (Passed st t w)
-  call-passed n w = each-at (Shows w) callTable n noCall refused
-      (refused, (create-table w, (delete-table w, (delegate-passed w, (freeze-passed w, (remove-passed w,
+  call-passed n w = each-at (Shows w) callTable n noCall (refused refl)
+      (refused refl, (create-table w, (delete-table w, (delegate-passed w, (freeze-passed w, (remove-passed w,
       (create-directory w, (delete-directory w, (map-page w, (remove-page w, (construct-passed w,
       (destruct-passed w, (create-process w, (delete-process w, (change-table w, (change-directory w,
       (create-endpoint w, (delete-endpoint w, (send-passed w, (receive-passed w, (function-passed w, tt)))))))))))))))))))))
 
 caller-is : (o : Object) → Given (callerTable o) (λ t. (d : Slot) × (o ≡ process t d))
 unfolding callerTable
-caller-is free = refused
-caller-is (body h) = refused
-caller-is (table ps) = refused
-caller-is (directory g es) = refused
+caller-is free = refused refl
+caller-is (body h) = refused refl
+caller-is (table ps) = refused refl
+caller-is (directory g es) = refused refl
 caller-is (process t d) = given (d, refl)
-caller-is (endpoint c b) = refused
+caller-is (endpoint c b) = refused refl
 
--- what a passed plan tells
-pub passed : (st : State) (caller : ℕ) (w : Words) (a : Action) → plan st caller w ≡ ok! a → PassedCall st caller w a
+-- what a plan tells: of its action where it passes, and never −19
+pub plan-given : (st : State) (caller : ℕ) (w : Words) → Given (plan st caller w) (PassedCall st caller w)
 unfolding plan
-passed st caller w a h =
-    let s = bind-ok _ _ a h in
-    let c = caller-is (objAt st (slot caller)) .of (s .found) (s .first) in
-    record { table = s .found; directory = c .0; named = c .1; shown = call-passed st (s .found) (callNumber w) w .of a (s .rest) }
+plan-given st caller w =
+    bind (caller-is (objAt st (slot caller))) λ t c. then (call-passed st t (callNumber w) w) λ a h.
+    record { table = t; directory = c .0; named = c .1; shown = h }
+
+pub passed : (st : State) (caller : ℕ) (w : Words) (a : Action) → plan st caller w ≡ ok! a → PassedCall st caller w a
+passed st caller w = plan-given st caller w .of

@@ -1,53 +1,29 @@
 -- Every well-formed state is the one that its bytes hold: each field has the room that the bytes give it.
-use mathlib.Core.Bool.{Bool, false, false≢true, true}
-use mathlib.Core.Logic.{inl, inr, _⊎_}
-use mathlib.Core.Path.{ap, refl, subst, _≡_}
-use Prim.Native.Nat.{_/_, _<_, _^_, suc, ℕ, _≤_}
+use mathlib.Core.Bool.{false≢true, true}
+use mathlib.Core.Path.{subst, _≡_}
+use Prim.Native.Nat.{_<_, _^_, ℕ, _≤_}
+use native.Mathlib.Decide.{decLt}
 use native.Mathlib.Nat.{le-of-eq, le-trans}
 use native.Mathlib.Omega.{arith}
-use lib.Dec.{ltb}
-use lib.ListN.{List·getD-eq-default, getD, length}
+use lib.ListN.{getD, length}
 use lib.Pow.{pow-mono}
-use borrow.Author.Tests.{eqb-true, leb-true, ltb-false, ltb-true}
+use borrow.Author.Tests.{eqb-true, leb-true, ltb-true}
 use Rattle.state.proofs.Back.{ObjectFits, PlaceFits, PositionFits, RightFits, read-bytes}
 use Rattle.state.proofs.Sizes.{bytes-length}
 use Rattle.state.specs.Bytes.{bytes, parentNo}
 use Rattle.state.specs.Read.{read}
-use Rattle.state.specs.State.{Object, State, body, directory, endpoint, free, objAt, placeNumbered, placesOf, positionsIn, positionsOf, process, shapeOf, table}
+use Rattle.state.specs.State.{Object, State, body, directory, endpoint, free, objAt, placeNumbered, placesOf, positionsIn, positionsOf, process, table}
 use Rattle.words.proofs.Tests.{all-at, and-left, and-right}
 use Rattle.words.specs.Fields.{count, slot}
-use Rattle.words.specs.Refusals.{number}
 use Rattle.words.specs.Rights.{allFlags, highOf, lowOf, objectOf, stampOf}
 use Rattle.words.specs.Sizes.{stateLength}
 use Rattle.rules.specs.Formed.{Formed}
 use Rattle.rules.specs.Names.{Blank, Capability, Child, Directory, Empty, Endpoint, Frost, Frozen, Function, Geometry, Holds, Kind, Memory, Origin, Page, Place, Position, Process, Root, Slot, Table, Thawed, Under}
-use Rattle.rules.specs.WellFormed.{descends, endsOk, geometric, hangs, names, objectNo, objectOk, parentFits, positionOk, reaches, right, rightOk, runs, stampOk, still, wf}
+use Rattle.rules.specs.WellFormed.{descends, endsOk, geometric, hangs, names, objectOk, parentFits, positionOk, reaches, right, rightOk, runs, stampOk, still, wf}
 use Rattle.rules.proofs.Facts.{right-open, wf-laid, wf-open}
-
--- a number is below another or not
-abbrev Split : ℕ → ℕ → Type 0
-Split k n = (k < n) ⊎ (n ≤ k)
-
-split : (k n : ℕ) → Split k n
-split k n = go (ltb k n) refl
-  where
-    go : (b : Bool) → ltb k n ≡ b → Split k n
-    go true e = inl (ltb-true k n e)
-    go false e = inr (ltb-false k n e)
+use Rattle.rules.proofs.Inside.{blank-past, free-past, laid-out, stands-inside, top-stands}
 
 module _ (st : State) (w : Formed st) where
-  -- beyond the slots there is nothing
-  pub nothing-beyond : (k : ℕ) → 256 ≤ k → objAt st (slot k) ≡ free
-  nothing-beyond k h = List·getD-eq-default (st .slots) free (le-trans (le-of-eq (w .room)) h)
-
-  -- so what is named by a number other than 0 stands in one of the 256 slots
-  pub stands-inside : (o : Slot) (n : ℕ) → objectNo (objAt st o) ≡ suc n → o .0 < 256
-  stands-inside o n h = go (split (o .0) 256)
-    where
-      go : Split (o .0) 256 → o .0 < 256
-      go (inl l) = l
-      go (inr l) = absurd (let z : objectNo (objAt st o) ≡ 0 = ap objectNo (nothing-beyond (o .0) l) in omega arith)
-
   -- a directory has at most 256 positions
   few : (o : Object) (s : Slot) → objectOk st s o ≡ true → length (positionsOf o) ≤ 256
   unfolding objectOk geometric
@@ -62,23 +38,18 @@ module _ (st : State) (w : Formed st) where
   few (endpoint c b) s h = omega arith
 
   pub positions-few : (o : Slot) → positionsIn st o ≤ 256
-  positions-few o = go (split (o .0) 256)
-    where
-      go : Split (o .0) 256 → positionsIn st o ≤ 256
-      go (inl l) = few (objAt st o) o (w .objects (o .0) l)
-      go (inr l) = rw (nothing-beyond (o .0) l) (omega arith)
+  positions-few o = elim (decLt (o .0) 256) [
+    | yes l ↦ few (objAt st o) o (w .objects (o .0) l)
+    | no l ↦ rw (free-past st (laid-out w) (o .0) (omega arith)) (omega arith)
+  ]
 
   -- a parent's place is one of 512
-  blank-far : (p : ℕ) → 512 ≤ p → placeNumbered st p ≡ Blank
-  blank-far p h = rw (nothing-beyond (p / 2) (omega arith)) (rw (nothing-beyond (p / 2) (omega arith)) refl)
-
   pub parent-small : (c : Capability) (p : ℕ) → descends st c (Under p) ≡ true → p < 512
   unfolding descends
-  parent-small c p h = go (split p 512)
-    where
-      go : Split p 512 → p < 512
-      go (inl l) = l
-      go (inr l) = absurd (false≢true (subst (λ (x : Place). parentFits c x ≡ true) (blank-far p l) (and-left (parentFits c (placeNumbered st p)) (reaches (placeNumbered st) 512 p) h)))
+  parent-small c p h = elim (decLt p 512) [
+    | yes l ↦ l
+    | no l ↦ absurd (false≢true (subst (λ (x : Place). parentFits c x ≡ true) (blank-past st (laid-out w) p (omega arith)) (and-left (parentFits c (placeNumbered st p)) (reaches (placeNumbered st) 512 p) h)))
+  ]
 
   parent-fits : (c : Capability) (o : Origin) → descends st c o ≡ true → parentNo o < 2 ^ 32
   parent-fits c Root h = omega arith
@@ -90,11 +61,11 @@ module _ (st : State) (w : Formed st) where
 
   pub object-inside : (k : Kind) → names st k ≡ true → objectOf k .0 < 256
   unfolding names
-  object-inside (Table o) h = stands-inside o 0 (eqb-true _ _ h)
-  object-inside (Directory o l u) h = stands-inside o 1 (eqb-true _ _ h)
+  object-inside (Table o) h = stands-inside st (laid-out w) o 0 (eqb-true _ _ h)
+  object-inside (Directory o l u) h = stands-inside st (laid-out w) o 1 (eqb-true _ _ h)
   object-inside (Memory l u) h = omega arith
-  object-inside (Process o) h = stands-inside o 3 (eqb-true _ _ h)
-  object-inside (Endpoint o) h = stands-inside o 4 (eqb-true _ _ h)
+  object-inside (Process o) h = stands-inside st (laid-out w) o 3 (eqb-true _ _ h)
+  object-inside (Endpoint o) h = stands-inside st (laid-out w) o 4 (eqb-true _ _ h)
   object-inside (Function l u) h = omega arith
 
   ends-fit : (k : Kind) → endsOk st k ≡ true → (lowOf k < 2 ^ 32) × (highOf k < 2 ^ 32)
@@ -144,16 +115,7 @@ module _ (st : State) (w : Formed st) where
   unfolding positionOk hangs
   position-fits g Empty h = tt
   position-fits g (Page f x) h = ltb-true _ _ (and-left _ _ (and-right _ _ h))
-  position-fits g (Child o x) h = stands-inside o 1 (eqb-true _ _ (and-left _ _ (and-left _ _ h)))
-
-  -- what is top is a directory
-  top-stands : (o : Object) → shapeOf o .top ≡ true → objectNo o ≡ 2
-  top-stands free h = absurd (false≢true h)
-  top-stands (body f) h = absurd (false≢true h)
-  top-stands (table ps) h = absurd (false≢true h)
-  top-stands (directory g es) h = refl
-  top-stands (process t d) h = absurd (false≢true h)
-  top-stands (endpoint c b) h = absurd (false≢true h)
+  position-fits g (Child o x) h = stands-inside st (laid-out w) o 1 (eqb-true _ _ (and-left _ _ (and-left _ _ h)))
 
   object-fits : (o : Object) (s : Slot) → objectOk st s o ≡ true → ((e : ℕ) → e < length (placesOf o) → right (rightOk st) (getD (placesOf o) e Blank) ≡ true) → ObjectFits o
   unfolding objectOk geometric runs
@@ -170,7 +132,7 @@ module _ (st : State) (w : Formed st) where
         count = eqb-true _ _ (and-left _ _ (and-right _ _ (and-right _ _ h)));
         each-fits = λ k l. position-fits g (getD es k Empty) (all-at (length es) (λ i. positionOk st g (getD es i Empty)) (and-right _ _ (and-right _ _ (and-right _ _ h))) k l);
       }
-  object-fits (process t d) s h f = (stands-inside t 0 (eqb-true _ _ (and-left _ _ h)), stands-inside d 1 (top-stands (objAt st d) (and-right _ _ h)))
+  object-fits (process t d) s h f = (stands-inside st (laid-out w) t 0 (eqb-true _ _ (and-left _ _ h)), stands-inside st (laid-out w) d 1 (top-stands (objAt st d) (and-right _ _ h)))
   object-fits (endpoint c b) s h f = ltb-true _ _ h
 
   pub every-fits : (i : ℕ) → i < 256 → ObjectFits (getD (st .slots) i free)

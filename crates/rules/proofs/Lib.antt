@@ -1,6 +1,9 @@
 pub mod Worked
 pub mod Facts
 pub mod Clock
+pub mod Inside
 pub mod Held
 pub mod Lift
-pub mod Found
+pub mod Chain
+pub mod Fuel
+pub mod Codes

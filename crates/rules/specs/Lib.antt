@@ -1,6 +1,7 @@
 pub mod Names
 pub mod WellFormed
 pub mod Formed
+pub mod Chains
 pub mod Boot
 pub mod Numbers
 pub mod Places

@@ -5,7 +5,6 @@ use borrow.Author.Needs.{needs}
 use denote.Ref.{now}
 use Rattle.state.specs.Read.{read}
 use Rattle.audit_chains.specs.Chains.{chained, under}
-use Rattle.audit_chains.proofs.Chain.{child}
 use Rattle.audit_chains.proofs.Entry.{entry-blank, entry-child, entry-root}
 use Rattle.audit_chains.proofs.entry_chained.Statement.{statement}
 use Rattle.audit_chains.proofs.entry_chained.Tie as tie

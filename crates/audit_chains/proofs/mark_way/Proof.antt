@@ -6,10 +6,10 @@ use borrow.Author.Needs.{needs}
 use denote.Ref.{now}
 use Rattle.state.specs.Read.{read}
 use Rattle.audit_chains.specs.Chains.{Shown, codes}
-use Rattle.audit_chains.proofs.Chain.{Reaches, parent-of}
-use Rattle.audit_chains.proofs.Codes.{reaches-holds, reaches-inside, test-reaches}
-use Rattle.audit_chains.proofs.Fuel.{zeros, zeros-fall}
-use Rattle.audit_chains.proofs.Walk.{shown-more}
+use Rattle.rules.proofs.Chain.{Reaches, parent-of}
+use Rattle.rules.proofs.Codes.{reaches-inside, test-reaches}
+use Rattle.rules.proofs.Fuel.{zeros, zeros-fall}
+use Rattle.audit_chains.proofs.Walk.{reaches-holds, shown-more}
 use Rattle.audit_chains.proofs.mark_way.Statement.{statement}
 use Rattle.audit_chains.proofs.mark_way.Tie as tie
 
@@ -21,7 +21,7 @@ abbrev μ-loop : tie.MeasureT-loop
 
 loop-holds : tie.Need-loop-holds Inv-loop μ-loop
 loop-holds c = let a = c .before in
-    (test-reaches (read (now (a .args .s))) (a .pre .0 .laid) (a .args .p) (a .pre .2), a .pre .1)
+    (test-reaches (read (now (a .args .s))) (a .args .p) (a .pre .2), a .pre .1)
 
 element-copy-out-if1 : tie.Need-element-copy-out-if1 Inv-loop μ-loop
 element-copy-out-if1 c = let a = c .before .before in

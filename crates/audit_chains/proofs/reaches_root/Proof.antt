@@ -8,8 +8,8 @@ use denote.Ref.{now}
 use Rattle.state.specs.Read.{read}
 use Rattle.state.specs.State.{placeNumbered}
 use Rattle.audit_chains.specs.Chains.{codes, holds}
-use Rattle.audit_chains.proofs.Chain.{root}
-use Rattle.audit_chains.proofs.Codes.{test-reaches}
+use Rattle.rules.proofs.Chain.{root}
+use Rattle.rules.proofs.Codes.{test-reaches}
 use Rattle.audit_chains.proofs.Entry.{numbered-parent, numbered-small}
 use Rattle.audit_chains.proofs.Walk.{Going, going-next, going-root, going-spent, going-start}
 use Rattle.audit_chains.proofs.reaches_root.Statement.{statement}
@@ -34,7 +34,7 @@ returns : tie.Need-returns Inv-loop μ-loop
 returns c = let a = c .before .before .before .before .before in
     let l = c .before .before .before .loop in
     let st = read (now (a .args .s)) in
-    going-root st (a .pre .0 .laid) _ (l .x) _ (l .inv .2) (test-reaches st (a .pre .0 .laid) (l .x) (a .pre .1 .shown (l .x) (c .if1 .taken)))
+    going-root st (a .pre .0 .laid) _ (l .x) _ (l .inv .2) (test-reaches st (l .x) (a .pre .1 .shown (l .x) (c .if1 .taken)))
 
 parent-word-requires : tie.Need-parent-word-requires Inv-loop μ-loop
 parent-word-requires c κs = (c .before .before .before .before .before .pre .0, c .before .before .before .loop .inv .1)

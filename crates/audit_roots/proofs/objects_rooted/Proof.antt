@@ -10,6 +10,7 @@ use denote.Ref.{now}
 use Rattle.rules.specs.WellFormed.{everyObject, oneRoot}
 use Rattle.state.specs.Read.{read}
 use Rattle.state.specs.State.{objAt}
+use Rattle.audit_entries.proofs.Vacant.{vacant-all, vacant-free}
 use Rattle.words.proofs.Tests.{all-more, all-not, all-zero}
 use Rattle.words.specs.Fields.{slot}
 use Rattle.words.specs.Tests.{allBelow}
@@ -17,16 +18,16 @@ use Rattle.audit_roots.proofs.objects_rooted.Statement.{statement}
 use Rattle.audit_roots.proofs.objects_rooted.Tie as tie
 
 abbrev Inv-loop : tie.InvT-loop
-Inv-loop s counts k₀ k = (k ≤ 256) × (allBelow k (λ i. oneRoot (read s) (slot i) (objAt (read s) (slot i))) ≡ true)
+Inv-loop s n counts k₀ k = (k ≤ n) × (allBelow k (λ i. oneRoot (read s) (slot i) (objAt (read s) (slot i))) ≡ true)
 
 abbrev μ-loop : tie.MeasureT-loop
-μ-loop s counts k₀ k = 256 - k
+μ-loop s n counts k₀ k = n - k
 
 loop-holds : tie.Need-loop-holds Inv-loop μ-loop
 loop-holds c = (search needs, all-zero _)
 
-cast-t5 : tie.Need-cast-t5 Inv-loop μ-loop
-cast-t5 c = search needs
+cast-t6 : tie.Need-cast-t6 Inv-loop μ-loop
+cast-t6 c = search needs
 
 one-root-requires : tie.Need-one-root-requires Inv-loop μ-loop
 one-root-requires c κs = search needs
@@ -35,7 +36,7 @@ returns : tie.Need-returns Inv-loop μ-loop
 unfolding everyObject
 returns c = let a = c .before .before .before .before .before .args in
     let l = c .before .before .before .loop in
-    sym (all-not 256 (λ i. oneRoot (read (now (a .s))) (slot i) (objAt (read (now (a .s))) (slot i))) (l .k) (c .before .before .loop-test .taken) (sym (c .before .one-root .ensures) ∙ not-true _ (c .if1 .taken)))
+    sym (all-not 256 (λ i. oneRoot (read (now (a .s))) (slot i) (objAt (read (now (a .s))) (slot i))) (l .k) (omega (arith, c .before .before .before .before .before .pre .1 .few)) (sym (c .before .one-root .ensures) ∙ not-true _ (c .if1 .taken)))
 
 add-k : tie.Need-add-k Inv-loop μ-loop
 add-k c = search needs
@@ -49,11 +50,11 @@ loop-again c = let a = c .before .before .before .before .before .args in
     (search needs, rw (add-one (l .k)) (all-more (l .k) (λ i. oneRoot (read (now (a .s))) (slot i) (objAt (read (now (a .s))) (slot i))) (l .inv .1) (sym (c .before .one-root .ensures) ∙ not-false _ (c .if1 .left))))
 
 returns-2 : tie.Need-returns-2 Inv-loop μ-loop
-unfolding everyObject
-returns-2 c = let a = c .before .before .before .args in
+unfolding everyObject oneRoot
+returns-2 c = let A = c .before .before .before in
     let l = c .before .loop in
-    let done : l .k ≡ 256 = omega arith in
-    sym (ap (λ (m : ℕ). allBelow m (λ i. oneRoot (read (now (a .s))) (slot i) (objAt (read (now (a .s))) (slot i)))) (sym done) ∙ l .inv .1)
+    let done : l .k ≡ A .args .n = omega arith in
+    sym (vacant-all _ (A .args .n) (A .pre .1) _ (rw done at (l .inv .1)) (λ k h i. rw (vacant-free _ _ (A .pre .1) k h i)))
 
 pub objects-rooted-spec : {M : Type 1} → statement M
 objects-rooted-spec =
@@ -62,7 +63,7 @@ objects-rooted-spec =
     Inv-loop
     μ-loop
     loop-holds
-    cast-t5
+    cast-t6
     one-root-requires
     returns
     add-k

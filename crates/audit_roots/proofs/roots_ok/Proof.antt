@@ -14,10 +14,10 @@ use Rattle.audit_roots.proofs.roots_ok.Tie as tie
 
 count-all-requires : tie.Need-count-all-requires
 count-all-requires c κs = let pre = c .before .before .pre in
-    (pre .size, pre .laid, none-below _)
+    (pre .0 .size, pre .0 .laid, pre .1, none-below _)
 
 objects-rooted-requires : tie.Need-objects-rooted-requires
-objects-rooted-requires c κs = (c .before .before .before .before .pre, c .before .count-all .ensures)
+objects-rooted-requires c κs = let pre = c .before .before .before .before .pre in (pre .0, pre .1, c .before .count-all .ensures)
 
 returns : tie.Need-returns
 unfolding rooted
@@ -28,7 +28,7 @@ array-read-if2 c = search needs
 
 returns-2 : tie.Need-returns-2
 unfolding rooted
-returns-2 c = let pre = c .before .before .before .before .before .before .before .pre in
+returns-2 c = let pre = c .before .before .before .before .before .before .before .pre .0 in
     let memory = c .before .before .before .before .count-all .ensures .each-count 256 (omega arith) ∙ memory-roots _ (pre .laid) (pre .rights) in
     sym
     (and-yes _ _ (sym (c .before .before .objects-rooted .ensures) ∙ not-false _ (c .before .if1 .left))
@@ -39,7 +39,7 @@ array-read-result c = search needs
 
 returns-3 : tie.Need-returns-3
 unfolding rooted
-returns-3 c = let pre = c .before .before .before .before .before .before .before .pre in
+returns-3 c = let pre = c .before .before .before .before .before .before .before .pre .0 in
     let counted = c .before .before .before .before .count-all .ensures .each-count in
     let memory = counted 256 (omega arith) ∙ memory-roots _ (pre .laid) (pre .rights) in
     let functions = counted 257 (omega arith) ∙ function-roots _ (pre .laid) (pre .rights) in

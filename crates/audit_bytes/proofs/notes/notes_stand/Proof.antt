@@ -1,4 +1,4 @@
--- `audit_bytes::notes::notes_stand` meets its contract: each turn passes one note.
+-- `audit_bytes::notes::notes_stand` meets its contract: each turn passes one note, and the notes of zeros behind them stand.
 use mathlib.Core.Path.{_≡_, sym, ap, _∙_}
 use mathlib.Core.Bool.{true}
 use Prim.Native.Nat.{ℕ, _-_, _≤_}
@@ -12,15 +12,16 @@ use Rattle.words.specs.Tests.{allBelow}
 use Rattle.audit_bytes.specs.Clean.{noteClean}
 use Rattle.audit_bytes.specs.Stands.{noteStands}
 use Rattle.words.specs.Fields.{slot}
+use Rattle.audit_entries.proofs.Vacant.{vacant-all}
 use Rattle.audit_bytes.proofs.NoteWords.{note-stands}
 use Rattle.audit_bytes.proofs.notes.notes_stand.Statement.{statement}
 use Rattle.audit_bytes.proofs.notes.notes_stand.Tie as tie
 
 abbrev Inv-loop : tie.InvT-loop
-Inv-loop s k₀ k = (k ≤ 256) × (allBelow k (λ j. noteStands s (slot j)) ≡ true)
+Inv-loop s n k₀ k = (k ≤ n) × (allBelow k (λ j. noteStands s (slot j)) ≡ true)
 
 abbrev μ-loop : tie.MeasureT-loop
-μ-loop s k₀ k = 256 - k
+μ-loop s n k₀ k = n - k
 
 loop-holds : tie.Need-loop-holds Inv-loop μ-loop
 loop-holds c = (search needs, all-zero _)
@@ -41,9 +42,9 @@ returns : tie.Need-returns Inv-loop μ-loop
 returns c = let A = c .before .before .before .before .before .before in
     let a = A .args in
     let l = c .before .before .before .before .loop in
-    let here = note-stands (now (a .s)) (λ j. c .before .before .before .before .before .shared-slice-known .given j .fits) (A .pre) (slot (l .k)) (c .before .before .before .loop-test .taken)
+    let here = note-stands (now (a .s)) (λ j. c .before .before .before .before .before .shared-slice-known .given j .fits) (A .pre .0) (slot (l .k)) (omega (arith, A .pre .1 .few))
     ∙ ap noteClean (sym (c .before .before .word-in .ensures)) ∙ sym (c .before .note-clean .ensures) in
-    sym (all-not 256 (λ j. noteStands (now (a .s)) (slot j)) (l .k) (c .before .before .before .loop-test .taken) (here ∙ not-true (c .before .note-clean .result) (c .if1 .taken)))
+    sym (all-not 256 (λ j. noteStands (now (a .s)) (slot j)) (l .k) (omega (arith, A .pre .1 .few)) (here ∙ not-true (c .before .note-clean .result) (c .if1 .taken)))
 
 add-k : tie.Need-add-k Inv-loop μ-loop
 add-k c = search needs
@@ -55,15 +56,18 @@ loop-again : tie.Need-loop-again Inv-loop μ-loop
 loop-again c = let A = c .before .before .before .before .before .before in
     let a = A .args in
     let l = c .before .before .before .before .loop in
-    let here = note-stands (now (a .s)) (λ j. c .before .before .before .before .before .shared-slice-known .given j .fits) (A .pre) (slot (l .k)) (c .before .before .before .loop-test .taken)
+    let here = note-stands (now (a .s)) (λ j. c .before .before .before .before .before .shared-slice-known .given j .fits) (A .pre .0) (slot (l .k)) (omega (arith, A .pre .1 .few))
     ∙ ap noteClean (sym (c .before .before .word-in .ensures)) ∙ sym (c .before .note-clean .ensures) in
     (search needs, rw (add-one (l .k)) (all-more (l .k) (λ j. noteStands (now (a .s)) (slot j)) (l .inv .1) (here ∙ not-false (c .before .note-clean .result) (c .if1 .left))))
 
 returns-2 : tie.Need-returns-2 Inv-loop μ-loop
-returns-2 c = let a = c .before .before .before .args in
+unfolding noteClean
+returns-2 c = let A = c .before .before .before in
+    let a = A .args in
     let l = c .before .loop in
-    let e : l .k ≡ 256 = omega arith in
-    sym (ap (λ (m : ℕ). allBelow m (λ j. noteStands (now (a .s)) (slot j))) (sym e) ∙ l .inv .1)
+    let e : l .k ≡ a .n = omega arith in
+    sym (vacant-all _ (a .n) (A .pre .1) _ (rw e at (l .inv .1))
+    (λ k h i. note-stands (now (a .s)) (λ j. c .before .before .shared-slice-known .given j .fits) (A .pre .0) (slot k) i ∙ ap noteClean (A .pre .1 .blank k h i)))
 
 pub notes-stand-spec : {M : Type 1} → statement M
 notes-stand-spec =

@@ -7,7 +7,8 @@ use lib.ListN.{length}
 use borrow.Author.Tests.{not-true, not-false}
 use borrow.Author.Needs.{needs}
 use denote.Ref.{now}
-use Rattle.audit_layout.proofs.Lay.{layFrom, lay-start, lay-none, lay-new, lay-more, lay-stops, lay-end}
+use Rattle.audit_layout.proofs.Lay.{layFrom, lay-start, lay-none, lay-new, lay-more, lay-stops, lay-vacant}
+use Rattle.audit_entries.proofs.Vacant.{vacant-free}
 use Rattle.rules.specs.WellFormed.{apart}
 use Rattle.state.specs.Read.{read}
 use Rattle.state.proofs.Look.{slots-length}
@@ -15,16 +16,16 @@ use Rattle.audit_layout.proofs.layout.laid_out.Statement.{statement}
 use Rattle.audit_layout.proofs.layout.laid_out.Tie as tie
 
 abbrev Inv-loop : tie.InvT-loop
-Inv-loop s owed₀ first₀ k₀ owed first k = (k ≤ 256) × (apart (read s) ≡ layFrom (read s) owed first k)
+Inv-loop s n owed₀ first₀ k₀ owed first k = (k ≤ n) × (apart (read s) ≡ layFrom (read s) owed first k)
 
 abbrev μ-loop : tie.MeasureT-loop
-μ-loop s owed₀ first₀ k₀ owed first k = 256 - k
+μ-loop s n owed₀ first₀ k₀ owed first k = n - k
 
 loop-holds : tie.Need-loop-holds Inv-loop μ-loop
 loop-holds c = (search needs, lay-start _)
 
-cast-t7 : tie.Need-cast-t7 Inv-loop μ-loop
-cast-t7 c = search needs
+cast-t8 : tie.Need-cast-t8 Inv-loop μ-loop
+cast-t8 c = search needs
 
 size-at-requires : tie.Need-size-at-requires Inv-loop μ-loop
 size-at-requires c κs = search needs
@@ -43,8 +44,8 @@ sub-owed c = search needs
 cast-first : tie.Need-cast-first Inv-loop μ-loop
 cast-first c = search needs
 
-cast-t12 : tie.Need-cast-t12 Inv-loop μ-loop
-cast-t12 c = search needs
+cast-t13 : tie.Need-cast-t13 Inv-loop μ-loop
+cast-t13 c = search needs
 
 goes-on-requires : tie.Need-goes-on-requires Inv-loop μ-loop
 goes-on-requires c κs = search needs
@@ -79,9 +80,11 @@ loop-again c = let a = c .before .before .before .before .args in
     )
 
 returns-3 : tie.Need-returns-3 Inv-loop μ-loop
-returns-3 c = let a = c .before .before .before .args in
+returns-3 c = let A = c .before .before .before in
+    let a = A .args in
     let l = c .before .loop in
-    sym (l .inv .1 ∙ lay-end (read (now (a .s))) (l .owed) (l .first) (l .k) (omega (arith, slots-length (now (a .s)))))
+    sym (l .inv .1 ∙ lay-vacant (read (now (a .s))) (256 - l .k) (l .owed) (l .first) (l .k) (omega (arith, slots-length (now (a .s)), A .pre .few))
+    (λ j h i. vacant-free (now (a .s)) (a .n) (A .pre) j (omega arith) (omega (arith, slots-length (now (a .s))))))
 
 pub laid-out-spec : {M : Type 1} → statement M
 laid-out-spec =
@@ -90,12 +93,12 @@ laid-out-spec =
     Inv-loop
     μ-loop
     loop-holds
-    cast-t7
+    cast-t8
     size-at-requires
     returns
     sub-owed
     cast-first
-    cast-t12
+    cast-t13
     goes-on-requires
     returns-2
     sub-owed-2

@@ -1,4 +1,4 @@
--- `audit_rights::rights::rights_ok` meets its contract: the tables passed so far are as they must be.
+-- `audit_rights::rights::rights_ok` meets its contract: the tables passed so far are as they must be, and a free slot has no entry.
 use mathlib.Core.Path.{_≡_, sym, _∙_}
 use mathlib.Core.Bool.{true}
 use Prim.Native.Nat.{_-_, _≤_}
@@ -13,22 +13,21 @@ use Rattle.state.specs.State.{entriesIn, placeAt}
 use Rattle.rules.specs.WellFormed.{right, everyPlace}
 use Rattle.audit_rights.specs.ButChain.{rightButChain}
 use Rattle.words.specs.Fields.{slot}
+use Rattle.audit_entries.proofs.Vacant.{vacant-all, vacant-free}
 use Rattle.audit_rights.proofs.rights.rights_ok.Statement.{statement}
 use Rattle.audit_rights.proofs.rights.rights_ok.Tie as tie
 
--- `audit_rights::rights::rights_ok` meets its contract: the tables passed so far are as they must be.
-
 abbrev Inv-loop : tie.InvT-loop
-Inv-loop s t₀ t = (t ≤ 256) × (allBelow t (λ k. allBelow (entriesIn (read s) (slot k)) (λ e. right (rightButChain (read s)) (placeAt (read s) (slot k) e))) ≡ true)
+Inv-loop s n t₀ t = (t ≤ n) × (allBelow t (λ k. allBelow (entriesIn (read s) (slot k)) (λ e. right (rightButChain (read s)) (placeAt (read s) (slot k) e))) ≡ true)
 
 abbrev μ-loop : tie.MeasureT-loop
-μ-loop s t₀ t = 256 - t
+μ-loop s n t₀ t = n - t
 
 loop-holds : tie.Need-loop-holds Inv-loop μ-loop
 loop-holds c = (search needs, all-zero _)
 
-cast-t4 : tie.Need-cast-t4 Inv-loop μ-loop
-cast-t4 c = search needs
+cast-t5 : tie.Need-cast-t5 Inv-loop μ-loop
+cast-t5 c = search needs
 
 table-ok-requires : tie.Need-table-ok-requires Inv-loop μ-loop
 table-ok-requires c κs = search needs
@@ -37,7 +36,7 @@ returns : tie.Need-returns Inv-loop μ-loop
 unfolding everyPlace
 returns c = let l = c .before .before .before .loop in
     let one = sym (c .before .table-ok .ensures) ∙ not-true _ (c .if1 .taken) in
-    sym (all-not _ _ (l .t) (c .before .before .loop-test .taken) one)
+    sym (all-not _ _ (l .t) (omega (arith, c .before .before .before .before .before .pre .2 .few)) one)
 
 add-t : tie.Need-add-t Inv-loop μ-loop
 add-t c = search needs
@@ -53,8 +52,9 @@ loop-again c = let l = c .before .before .before .loop in
 returns-2 : tie.Need-returns-2 Inv-loop μ-loop
 unfolding everyPlace
 returns-2 c = let l = c .before .loop in
-    let e : l .t ≡ 256 = omega arith in
-    sym (rw e at (l .inv .1))
+    let A = c .before .before .before in
+    let e : l .t ≡ A .args .n = omega arith in
+    sym (vacant-all _ (A .args .n) (A .pre .2) _ (rw e at (l .inv .1)) (λ k h i. rw (vacant-free _ _ (A .pre .2) k h i) (all-zero _)))
 
 pub rights-ok-spec : {M : Type 1} → statement M
 rights-ok-spec =
@@ -63,7 +63,7 @@ rights-ok-spec =
     Inv-loop
     μ-loop
     loop-holds
-    cast-t4
+    cast-t5
     table-ok-requires
     returns
     add-t

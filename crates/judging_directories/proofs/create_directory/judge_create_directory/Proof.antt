@@ -1,11 +1,6 @@
 -- `judging_directories::create_directory::judge_create_directory` meets its contract: each return rewrites with the steps that led there; a memory right of a well-formed state lies in kernel memory.
-use mathlib.Core.Path.{sym, ap, _∙_}
 use borrow.Author.Needs.{needs}
-use denote.Ref.{now}
-use Rattle.state.specs.Read.{read}
-use Rattle.words.specs.Answers.{toldStretch}
-use Rattle.words.specs.Fields.{D1}
-use Rattle.rules.proofs.Found.{memory-bounds}
+use Rattle.passed.proofs.Stand.{memory-found}
 use Rattle.judging_directories.specs.Shaping.{shapeAndPlace}
 use Rattle.words.specs.Try.{_>>=_, _>>_, need}
 use Rattle.rules.specs.Calls.{createDirectory}
@@ -73,9 +68,7 @@ address-in-word-requires : tie.Need-address-in-word-requires
 address-in-word-requires c κs = search needs
 
 shape-and-place-requires : tie.Need-shape-and-place-requires
-shape-and-place-requires c κs = let a = c .before .before .before .before .before .before .before .before .before .before .before .before .before .before .before .before .before .before .args in
-    let found = sym (rw (c .before .before .before .before .before .before .before .before .before .before .before .number-in-d1 .ensures) at (c .before .before .before .before .before .before .before .before .before .before .memory-arg .ensures)) ∙ ap toldStretch (c .before .before .before .before .before .before .before .before .b .given .1) in
-    memory-bounds (read (now (a .s))) (c .before .before .before .before .before .before .before .before .before .before .before .before .before .before .before .before .before .before .pre) (a .t) (D1 (a .w .p1)) 1 _ found
+shape-and-place-requires c κs = memory-found _ _ _ _ (c .before .before .before .before .before .before .before .before .before .before .before .before .before .before .before .before .before .before .pre) (c .before .before .before .before .before .before .before .before .before .before .memory-arg .ensures) (c .before .before .before .before .before .before .before .before .b .given .1)
 
 returns-4 : tie.Need-returns-4
 unfolding createDirectory shapeAndPlace _>>=_ _>>_ need

@@ -1,7 +1,7 @@
 -- `judging_processes::processes::judge_create_process` meets its contract: each return rewrites with the steps that led there; the memory right lies in kernel memory.
 use native.Mathlib.Omega.{arith}
 use borrow.Author.Needs.{needs}
-use Rattle.judging_processes.proofs.Bounds.{found-bounds}
+use Rattle.passed.proofs.Stand.{memory-found}
 use Rattle.rules.specs.Calls.{createProcess}
 use Rattle.words.specs.Try.{_>>=_, _>>_}
 use Rattle.judging_processes.proofs.processes.judge_create_process.Statement.{statement}
@@ -103,7 +103,7 @@ address-in-word-requires : tie.Need-address-in-word-requires
 address-in-word-requires c κs = search needs
 
 address-arg-requires : tie.Need-address-arg-requires
-address-arg-requires c κs = (found-bounds _ _ _ _ (c .before .before .before .before .before .before .before .before .before .before .before .before .before .before .before .before .before .before .before .before .before .before .before .before .before .before .before .pre) (c .before .before .before .before .before .before .before .before .before .before .before .before .before .before .before .before .before .memory-arg .ensures) (c .before .before .before .before .before .before .before .before .before .before .before .before .before .before .before .b .given .1), (omega arith, omega arith))
+address-arg-requires c κs = (memory-found _ _ _ _ (c .before .before .before .before .before .before .before .before .before .before .before .before .before .before .before .before .before .before .before .before .before .before .before .before .before .before .before .pre) (c .before .before .before .before .before .before .before .before .before .before .before .before .before .before .before .before .before .memory-arg .ensures) (c .before .before .before .before .before .before .before .before .before .before .before .before .before .before .before .b .given .1), (omega arith, omega arith))
 
 enum-known-x : tie.Need-enum-known-x
 enum-known-x c = search needs

@@ -1,10 +1,8 @@
 -- `judging_tables::create::judge_create_table` meets its contract: each return rewrites with the steps that led there; a memory right of a well-formed state lies in kernel memory.
-use mathlib.Core.Path.{ap, sym, _∙_}
 use native.Mathlib.Omega.{arith}
 use borrow.Author.Tests.{le-leb, lt-leb}
 use borrow.Author.Needs.{needs}
-use Rattle.words.specs.Answers.{toldStretch}
-use Rattle.rules.proofs.Found.{memory-bounds}
+use Rattle.passed.proofs.Stand.{memory-found}
 use Rattle.rules.specs.Calls.{createTable}
 use Rattle.words.specs.Tests.{_&_}
 use Rattle.words.specs.Try.{_>>=_, _>>_, need}
@@ -85,8 +83,7 @@ add-address-arg : tie.Need-add-address-arg
 add-address-arg c = search needs
 
 address-arg-requires : tie.Need-address-arg-requires
-address-arg-requires c κs = let m = c .before .before .before .before .before .before .before .before .before .before .before .memory-arg in let h = memory-bounds _ (c .before .before .before .before .before .before .before .before .before .before .before .before .before .before .before .before .before .before .before .pre) _ _ _ _ (sym (m .ensures) ∙ ap toldStretch (c .before .before .before .before .before .before .before .before .before .b .given .1)) in
-    (h, (omega arith, omega arith))
+address-arg-requires c κs = (memory-found _ _ _ _ (c .before .before .before .before .before .before .before .before .before .before .before .before .before .before .before .before .before .before .before .pre) (c .before .before .before .before .before .before .before .before .before .before .before .memory-arg .ensures) (c .before .before .before .before .before .before .before .before .before .b .given .1), (omega arith, omega arith))
 
 enum-known-d : tie.Need-enum-known-d
 enum-known-d c = search needs

@@ -1,4 +1,4 @@
--- Parent chains with no bound, over the code of each place: 0 blank, 1 a root, p + 2 a child of place p; and what lies on a chain.
+-- "its parent chain reaches a root", with no bound on the steps, over the code of each place (specs/Chains.antt); and what lies on a chain.
 use mathlib.Core.Path.{refl, subst, sym, _∙_, _≡_}
 use Prim.Native.Nat.{_+_, ℕ}
 use native.Mathlib.Omega.{arith}

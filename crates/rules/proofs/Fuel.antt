@@ -1,4 +1,4 @@
--- The same with a bound: N steps are enough for N places, since a chain that reaches a root passes no place twice.
+-- Chains with a bound: N steps are enough for N places, since a chain that reaches a root passes no place twice.
 use mathlib.Core.Bool.{Bool, false, false≢true, true}
 use mathlib.Core.List.{List, [], _∷_}
 use mathlib.Core.Path.{_≡_, ap, refl, subst, sym, _∙_}
@@ -9,8 +9,7 @@ use native.Mathlib.Numerals.{add-two}
 use native.Mathlib.Omega.{arith}
 use lib.ListN.{getD, length, length-replicate, length-set, replicate, set}
 use lib.Seq.{getD-set-other}
-use Rattle.words.specs.Fields.{N}
-use Rattle.audit_chains.proofs.Chain.{Leads, Reaches, child, here, no-cycle, root, snoc, used-of}
+use Rattle.rules.proofs.Chain.{Leads, Reaches, child, here, no-cycle, root, snoc, used-of}
 
 -- ---- how many marks are not yet made
 abbrev pub zeros : List ℕ → ℕ
