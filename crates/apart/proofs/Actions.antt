@@ -12,6 +12,7 @@ use Rattle.rules.specs.Calls.{askedKind}
 use Rattle.rules.specs.Commit.{froze}
 use Rattle.rules.specs.WellFormed.{objectNo}
 use Rattle.state.proofs.New.{directory-slots, table-slots}
+use Rattle.state.proofs.Zeros.{copies}
 use Rattle.state.specs.State.{Object, directory, endpoint, free, objAt, placeAt, placesOf, process, sizeOf, table}
 use Rattle.words.proofs.Flags.{inside-facts}
 use Rattle.words.specs.Fields.{count}
@@ -21,7 +22,7 @@ use Rattle.apart.specs.Reach.{NamesObject}
 use Rattle.apart.proofs.Extents.{lies-inside, none-behind}
 use Rattle.apart.proofs.Good.{GoodCreate, GoodDelete}
 use Rattle.apart.proofs.Invariant.{Far, Own, SafeAt, SafeKind}
-use Rattle.apart.proofs.Objects.{blanks, directory-form, endpoint-form, position-in, process-form, process-own, real-in, real-size, root-of}
+use Rattle.apart.proofs.Objects.{directory-form, endpoint-form, position-in, process-form, process-own, real-in, real-size, root-of}
 use Rattle.apart.proofs.Scene.{GoodIn, Scene, at-safe, at-stands, by-safe, by-stands, slots-formed}
 use Rattle.apart.proofs.View.{inSlot}
 
@@ -94,7 +95,7 @@ module _ {M : ℕ → ℕ → Type 0} {a b : ℕ} (S : Scene M a b) where
   -- ---- each action
   pub action-good : (w : Words) (x : Action) → Passed (S .st) (S .t) w x → GoodIn S x
   action-good w (CreateTable p s n) h =
-      create-good p s _ (table (replicate n Blank)) (Table s) (h .creation) (let z = h .some in omega arith) (table-slots n) (omega arith) (blanks n) tt (inr refl) refl
+      create-good p s _ (table (replicate n Blank)) (Table s) (h .creation) (let z = h .some in omega arith) (table-slots n) (omega arith) (λ j. copies n j Blank) tt (inr refl) refl
   action-good w (CreateDirectory p s g) h =
       create-good p s _ (directory g (replicate (2 ^ (g .number)) Empty)) (Directory s 0 (2 ^ (g .number) - 1)) (h .creation)
       (omega arith) (directory-slots g (2 ^ (g .number))) (omega arith) (λ j. refl) tt tt refl

@@ -2,29 +2,19 @@
 -- So what a call puts in its place has the same form.
 use mathlib.Core.Bool.{false≢true, true}
 use mathlib.Core.Path.{ap, refl, subst, sym, _∙_, _≡_}
-use Prim.Native.Nat.{_*_, _+_, _<_, ℕ, _≤_}
-use native.Mathlib.Decide.{decLt}
+use Prim.Native.Nat.{_*_, _+_, _<_, ℕ}
 use native.Mathlib.Nat.{not-suc-le-zero}
 use native.Mathlib.Omega.{arith}
-use lib.ListN.{List·getD-eq-default, getD, getD-replicate, length, length-replicate, length-set, replicate, set}
+use lib.ListN.{length, length-set, set}
+use Rattle.rules.proofs.Named.{number-tag}
 use Rattle.rules.specs.WellFormed.{objectNo}
-use Rattle.state.proofs.Write.{is-directory, is-endpoint, is-process, is-table}
-use Rattle.state.specs.Bytes.{tagOf}
+use Rattle.state.proofs.Write.{is-directory, is-endpoint, is-process, is-table, slot-in}
 use Rattle.state.specs.State.{Object, State, body, bootMark, directory, endpoint, entriesIn, free, objAt, placesOf, positionsIn, positionsOf, process, shapeOf, sizeOf, table, tableNamed}
 use Rattle.words.specs.Rights.{isRoot}
 use Rattle.words.specs.Sizes.{entrySize, headerSize, positionSize, slotsFor}
-use Rattle.apart.specs.Names.{Blank, Origin, Place, Position, Root, Slot, Under}
+use Rattle.apart.specs.Names.{Origin, Place, Position, Root, Slot, Under}
 use Rattle.apart.specs.Reach.{Form, extent, formOf}
 use Rattle.apart.proofs.Invariant.{Own}
-
--- a process and an endpoint have their number as tag
-number-tag : (o : Object) → 4 ≤ objectNo o → tagOf o ≡ objectNo o
-number-tag free h = absurd (omega arith)
-number-tag (body f) h = absurd (omega arith)
-number-tag (table ps) h = absurd (omega arith)
-number-tag (directory g es) h = absurd (omega arith)
-number-tag (process u d) h = refl
-number-tag (endpoint c b) h = refl
 
 pub process-form : (o : Object) → objectNo o ≡ 4 → Form.process ≡ formOf o
 process-form o e = sym (ap formOf (is-process o (number-tag o (omega arith) ∙ e)))
@@ -67,14 +57,6 @@ real-size (directory g es) h = refl
 real-size (process u d) h = refl
 real-size (endpoint c b) h = refl
 
-pub real-tag : (o : Object) → 0 < objectNo o → 2 ≤ tagOf o
-real-tag free h = absurd (omega arith)
-real-tag (body f) h = absurd (omega arith)
-real-tag (table ps) h = omega arith
-real-tag (directory g es) h = omega arith
-real-tag (process u d) h = omega arith
-real-tag (endpoint c b) h = omega arith
-
 -- and only that has an extent
 pub extent-real : (o : Object) → 0 < extent (formOf o) → 0 < objectNo o
 extent-real free h = absurd (omega arith)
@@ -89,13 +71,6 @@ root-of Root t = refl
 root-of (Under p) t = absurd (false≢true t)
 
 -- what is not free is in memory
-slot-in : (st : State) (s : Slot) → (objAt st s ≡ free → ⊥) → s .0 < length (st .slots)
-slot-in st s d = go (decLt (s .0) (length (st .slots)))
-  where
-    go : Dec (s .0 < length (st .slots)) → s .0 < length (st .slots)
-    go (yes l) = l
-    go (no l) = absurd (d (List·getD-eq-default (st .slots) free {n = s .0} (omega arith)))
-
 pub real-in : (st : State) (s : Slot) → 0 < objectNo (objAt st s) → s .0 < length (st .slots)
 real-in st s h = slot-in st s (λ e. let z : 0 < 0 = rw e at h in omega arith)
 
@@ -104,11 +79,3 @@ position-in st s i h = slot-in st s (λ e. not-suc-le-zero (rw e at h))
 
 pub entry-in : (st : State) (t : Slot) (i : ℕ) → i < entriesIn st t → t .0 < length (st .slots)
 entry-in st t i h = slot-in st t (λ e. not-suc-le-zero (rw e at h))
-
--- a new table's places
-pub blanks : (n j : ℕ) → getD (replicate n Blank) j Blank ≡ Blank
-blanks n j = go (decLt j n)
-  where
-    go : Dec (j < n) → getD (replicate n Blank) j Blank ≡ Blank
-    go (yes l) = getD-replicate n j Blank Blank l
-    go (no l) = List·getD-eq-default (replicate n Blank) Blank {n = j} (rw (length-replicate n Blank) (omega arith))

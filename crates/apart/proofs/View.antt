@@ -1,16 +1,13 @@
 -- What each change does to the objects of a state, slot by slot: after this, no proof looks at the list of slots.
-use mathlib.Core.List.{List}
 use mathlib.Core.Logic.{_≢_}
 use mathlib.Core.Path.{ap, _∙_, _≡_}
 use Prim.Native.Nat.{_+_, _-_, _<_, suc, ℕ, _≤_}
 use native.Mathlib.Decide.{decLt, ℕ-discrete}
 use native.Mathlib.Omega.{arith}
-use lib.ListN.{getD, getD-replicate, length, length-replicate, length-set, replicate}
+use lib.ListN.{length, length-set}
 use lib.Seq.{getD-set-other, getD-set-same}
-use Rattle.state.proofs.Elsewhere.{splice-in, splice-stays}
-use Rattle.state.proofs.Pieces.{length-splice}
-use Rattle.state.proofs.Run.{risen-length}
-use Rattle.state.specs.State.{Object, State, body, free, objAt, put, raise, raze, risen, sizeOf, splice}
+use Rattle.state.proofs.Elsewhere.{raise-apart, raise-first, raise-length, raise-part, raze-apart, raze-free}
+use Rattle.state.specs.State.{Object, State, body, free, objAt, put, raise, raze, sizeOf}
 use Rattle.words.specs.Fields.{slot}
 use Rattle.apart.specs.Names.{Slot}
 
@@ -62,48 +59,25 @@ pub record Razed (st r : State) (f n : ℕ) : Type 0 where
 
 pub raised : (st : State) (s : Slot) (o : Object) (n : ℕ) → sizeOf o ≡ n → 0 < n → s .0 + n ≤ length (st .slots) → Raised st (raise st s o) (s .0) n o
 raised st s o n e z h = record {
-  head = ap (λ (k : ℕ). getD (splice (s .0) v (st .slots)) k free) (let q : s .0 ≡ s .0 + 0 = omega arith in q) ∙ splice-in free v (st .slots) (s .0) fit 0 (omega (arith, long));
-  inner = λ x p q. inner x p q;
-  rest = λ x d. splice-stays free v (st .slots) (s .0) fit x (λ j l e. d (omega arith) (omega (arith, long)));
-  size = length-splice (st .slots) v (s .0) fit;
+  head = raise-first st s o some fits;
+  inner = λ x p q.
+      let j : x ≡ s .0 + suc (x - s .0 - 1) = omega arith in
+      ap (inSlot (raise st s o)) j ∙ raise-part st s o some fits (x - s .0 - 1) (omega arith);
+  rest = λ x d. raise-apart st s o some fits x (λ j l q. d (omega arith) (omega arith));
+  size = raise-length st s o some fits;
 }
   where
-    v : List Object
-    v = risen s o
+    some : 1 ≤ sizeOf o
+    some = omega arith
 
-    long : length v ≡ n
-    long = risen-length s o (omega arith) ∙ e
-
-    fit : s .0 + length v ≤ length (st .slots)
-    fit = omega (arith, long)
-
-    inner : (x : ℕ) → s .0 < x → x < s .0 + n → getD (splice (s .0) v (st .slots)) x free ≡ body s
-    inner x p q =
-        let k : ℕ = x - s .0 - 1 in
-        let j : x ≡ s .0 + suc k = omega arith in
-        ap (λ (y : ℕ). getD (splice (s .0) v (st .slots)) y free) j
-        ∙ splice-in free v (st .slots) (s .0) fit (suc k) (omega (arith, long))
-        ∙ getD-replicate (sizeOf o - 1) k (body s) free (omega arith)
+    fits : s .0 + sizeOf o ≤ length (st .slots)
+    fits = omega arith
 
 pub razed : (st : State) (s : Slot) (n : ℕ) → sizeOf (objAt st s) ≡ n → s .0 + n ≤ length (st .slots) → Razed st (raze st s) (s .0) n
 razed st s n e h = record {
-  gone = λ x p q. gone x p q;
-  rest = λ x d. splice-stays free v (st .slots) (s .0) fit x (λ j l e. d (omega arith) (omega (arith, long)));
+  gone = λ x p q. let j : x ≡ s .0 + (x - s .0) = omega arith in ap (inSlot (raze st s)) j ∙ raze-free st s fits (x - s .0) (omega arith);
+  rest = λ x d. raze-apart st s fits x (λ j l q. d (omega arith) (omega arith));
 }
   where
-    v : List Object
-    v = replicate (sizeOf (objAt st s)) free
-
-    long : length v ≡ n
-    long = length-replicate (sizeOf (objAt st s)) free ∙ e
-
-    fit : s .0 + length v ≤ length (st .slots)
-    fit = omega (arith, long)
-
-    gone : (x : ℕ) → s .0 ≤ x → x < s .0 + n → getD (splice (s .0) v (st .slots)) x free ≡ free
-    gone x p q =
-        let k : ℕ = x - s .0 in
-        let j : x ≡ s .0 + k = omega arith in
-        ap (λ (y : ℕ). getD (splice (s .0) v (st .slots)) y free) j
-        ∙ splice-in free v (st .slots) (s .0) fit k (omega (arith, long))
-        ∙ getD-replicate (sizeOf (objAt st s)) k free free (omega arith)
+    fits : s .0 + sizeOf (objAt st s) ≤ length (st .slots)
+    fits = omega arith

@@ -4,6 +4,7 @@ ghost use mathlib.Core.Path.{_≡_};
 ghost use Rattle.rules.specs.Buffer.{sound};
 use audit_bytes::canonical::canonical;
 use audit_chains::chains_ok;
+use audit_entries::heads::list_heads;
 use audit_entries::used::used;
 use audit_layout::layout::laid_out;
 use audit_objects::objects::objects_ok;
@@ -23,13 +24,15 @@ pub fn well_formed(s: &[u8]) -> bool
     if !canonical(s, n) {
         return false;
     }
-    if !objects_ok(s, n) {
+    let mut heads = [0u8; 256];
+    let m = list_heads(s, n, &mut heads);
+    if !objects_ok(s, &heads, m) {
         return false;
     }
-    if !rights_ok(s, n) {
+    if !rights_ok(s, &heads, m) {
         return false;
     }
-    if !roots_ok(s, n) {
+    if !roots_ok(s, &heads, m) {
         return false;
     }
     chains_ok(s)

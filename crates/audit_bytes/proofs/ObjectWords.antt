@@ -9,11 +9,12 @@ use lib.Arith.{digits-div}
 use lib.Dec.{eqb, leb, ltb}
 use lib.ListN.{drop, getD, length, length-append, replicate}
 use borrow.Author.Tests.{eq-eqb, eqb-true, le-leb, leb-true}
+use Rattle.audit_entries.proofs.Bounded.{all-agree}
 use Rattle.state.proofs.Look.{listed-length}
 use Rattle.state.proofs.Sizes.{place-length, position-length, positions-length, table-length}
 use Rattle.state.specs.Bytes.{each, mark, memoryBytes, ownBytes, placeBytes, positionBytes, wordsBytes}
 use Rattle.state.specs.Read.{listed, marked, placeOf, positionOf, wordAt}
-use Rattle.state.specs.State.{Object, free, sizeOf}
+use Rattle.state.specs.State.{Object, sizeOf}
 use Rattle.words.proofs.Tests.{and-yes, iff}
 use Rattle.words.specs.Sizes.{entrySize, headerSize, positionSize, slotCount, slotSize, slotsFor}
 use Rattle.words.specs.Tests.{_&_, allBelow}
@@ -21,8 +22,8 @@ use Rattle.audit_bytes.specs.Clean.{zeroWords}
 use Rattle.audit_bytes.specs.Names.{Blank, Empty, Place, Position}
 use Rattle.audit_bytes.specs.Stands.{directoryIn, endpointIn, placeStands, positionStands, processIn, starts, tableIn}
 use Rattle.audit_bytes.proofs.Runs.{starts-listed, zeros-stand}
-use Rattle.audit_bytes.proofs.Starts.{starts-append, starts-nil}
-use Rattle.audit_bytes.proofs.Tests.{all-agree, and-assoc, and-end, eqb-self}
+use Rattle.audit_bytes.proofs.Starts.{starts-append}
+use Rattle.audit_bytes.proofs.Tests.{and-assoc, and-end, eqb-self}
 use Rattle.audit_bytes.proofs.Words.{Bytes, word-fits, word-slot, words-stand}
 
 mark-clean : (w : ℕ) → eqb w (mark (marked w)) ≡ leb w 1

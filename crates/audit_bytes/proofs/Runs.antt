@@ -7,6 +7,7 @@ use native.Mathlib.Omega.{arith}
 use lib.Dec.{eqb}
 use lib.ListN.{drop, getD, length, length-replicate, replicate}
 use lib.Seq.{drop-drop}
+use Rattle.audit_entries.proofs.Bounded.{all-agree}
 use Rattle.state.proofs.Look.{listed-at, listed-length}
 use Rattle.state.proofs.Zeros.{each-zeros}
 use Rattle.state.specs.Bytes.{each, le32}
@@ -15,7 +16,7 @@ use Rattle.words.specs.Tests.{_&_, allBelow}
 use Rattle.audit_bytes.specs.Clean.{zeroWords}
 use Rattle.audit_bytes.specs.Stands.{starts}
 use Rattle.audit_bytes.proofs.Starts.{starts-append, starts-nil}
-use Rattle.audit_bytes.proofs.Tests.{all-agree, all-front}
+use Rattle.audit_bytes.proofs.Tests.{all-front}
 use Rattle.audit_bytes.proofs.Words.{Bytes, word-stands}
 
 module _ {A : Type 0} (g : A → List ℕ) (w : ℕ) (u : (x : A) → length (g x) ≡ w) (d : A) where

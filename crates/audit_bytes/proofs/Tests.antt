@@ -1,6 +1,6 @@
--- More laws of tests: both of three, the first and the last number apart, and tests that agree below a number.
+-- More laws of tests: both of three, the first and the last number apart, and tests of numbers that pass together.
 use mathlib.Core.Bool.{Bool, false, true}
-use mathlib.Core.Path.{refl, sym, _∙_, _≡_}
+use mathlib.Core.Path.{refl, _≡_}
 use Prim.Native.Nat.{_<_, suc, zero, ℕ}
 use native.Mathlib.Omega.{arith}
 use lib.Bits.{and-le-l, and-le-r, bitOr, or-add-and}
@@ -22,10 +22,6 @@ and-swap true false c = refl
 and-swap false true true = refl
 and-swap false true false = refl
 and-swap false false c = refl
-
-pub all-agree : (n : ℕ) (p q : ℕ → Bool) → ((k : ℕ) → k < n → p k ≡ q k) → allBelow n p ≡ allBelow n q
-all-agree n p q f =
-    iff _ _ (λ h. all-of n q (λ k l. sym (f k l) ∙ all-at n p h k l)) (λ h. all-of n p (λ k l. f k l ∙ all-at n q h k l))
 
 pub all-front : (n : ℕ) (p : ℕ → Bool) → allBelow (suc n) p ≡ (p 0 & allBelow n (λ k. p (suc k)))
 all-front n p =

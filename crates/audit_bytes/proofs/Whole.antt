@@ -6,6 +6,7 @@ use Prim.Native.Nat.{_*_, _+_, suc, zero, ℕ}
 use native.Mathlib.Omega.{arith}
 use lib.ListN.{drop, getD, length, replicate}
 use lib.Seq.{drop-drop}
+use Rattle.audit_entries.proofs.Bounded.{all-agree}
 use Rattle.rules.specs.Buffer.{same}
 use Rattle.rules.specs.WellFormed.{apart}
 use Rattle.state.proofs.Look.{clock-read, slots-length}
@@ -24,7 +25,7 @@ use Rattle.audit_bytes.specs.Stands.{noteStands, objectStands, starts}
 use Rattle.audit_bytes.proofs.Runs.{starts-even, zeros-stand}
 use Rattle.audit_bytes.proofs.SlotParts.{laid-open}
 use Rattle.audit_bytes.proofs.Starts.{same-starts, starts-append, starts-nil}
-use Rattle.audit_bytes.proofs.Tests.{all-agree, all-front, and-swap, eqb-self}
+use Rattle.audit_bytes.proofs.Tests.{all-front, and-swap, eqb-self}
 use Rattle.audit_bytes.proofs.Words.{Bytes, word-fits, word-stands}
 
 -- ---- the memory. l is the memory from slot k on, of which c slots belong to the object before

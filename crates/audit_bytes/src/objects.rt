@@ -50,6 +50,7 @@ fn endpoint_stands(p: &[u8]) -> bool
 
 // "hands on just its slots": those of what stands in a slot.
 fn own_slots(s: &[u8], k: Slot) -> &[u8]
+    requires { ⌜ length (now s) ≡ stateLength ⌝ }
     ensures { λ r. ⌜ now r ≡ take (slotSize * sizeOf (objAt (read (now (s .entry))) k)) (drop (slotSize * k .0) (now (s .entry))) ⌝ }
 {
     slots_from(s, k, size_at(s, k))

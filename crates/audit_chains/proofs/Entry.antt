@@ -1,23 +1,21 @@
 -- What the words of an entry say of its chain; and that in a laid-out state the place of number x stands at byte 32·x.
 use mathlib.Core.Bool.{Bool, false, false≢true, true}
-use mathlib.Core.List.{List, [], _∷_}
+use mathlib.Core.List.{List}
 use mathlib.Core.Logic.{_⊎_, ⊎-elim}
 use mathlib.Core.Path.{ap, refl, _∙_, _≡_}
 use Prim.Native.Nat.{_*_, _+_, _-_, _/_, _<_, suc, zero, ℕ, _≤_}
-use native.Mathlib.Nat.{le-of-suc-le-suc, le-refl, not-suc-le-zero}
 use native.Mathlib.Omega.{arith}
 use lib.Dec.{ltb}
-use lib.ListN.{getD, length}
 use borrow.Author.Tests.{eq-eqb, ltb-false, ltb-true, ne-eqb}
 use Rattle.audit_entries.proofs.Entries.{place-cases}
 use Rattle.rules.proofs.Inside.{blank-past}
 use Rattle.rules.specs.Chains.{codeOf, originCode}
 use Rattle.rules.specs.WellFormed.{everyPlace, right}
+use Rattle.state.proofs.Bodies.{first-le}
 use Rattle.state.proofs.Look.{place-known, place-past}
-use Rattle.state.proofs.Sizes.{goes-body, lay-suc, lay-zero}
-use Rattle.state.specs.Layout.{Laid, lay}
+use Rattle.state.specs.Layout.{Laid}
 use Rattle.state.specs.Read.{originFrom, placeOf, read, wordAt}
-use Rattle.state.specs.State.{Object, State, body, directory, endpoint, entriesIn, firstOf, free, objAt, placeNumbered, process, sizeOf, table}
+use Rattle.state.specs.State.{State, entriesIn, firstOf, objAt, placeNumbered}
 use Rattle.words.proofs.Tests.{all-at}
 use Rattle.words.specs.Fields.{slot}
 use Rattle.words.specs.Sizes.{placeCount, slotCount}
@@ -67,28 +65,6 @@ module _ (b : List ℕ) (at : ℕ) where
         none : {A : Type 0} → 1 ≤ wordAt b at → wordAt b at ≤ 6 → A
         none low high = absurd (⊎-elim (λ z. omega arith) (λ g. omega arith) w)
 
--- ---- a slot's object begins at it or before it
-not-body : (n m : ℕ) (o : Object) → sizeOf o ≡ suc m → firstOf n o .0 ≤ n
-not-body n m free e = le-refl n
-not-body n m (body f) e = absurd (omega arith)
-not-body n m (table ps) e = le-refl n
-not-body n m (directory g es) e = le-refl n
-not-body n m (process t d) e = le-refl n
-not-body n m (endpoint c b) e = le-refl n
-
-lay-first : (xs : List Object) (k c : ℕ) (h : Slot) → lay k c h xs ≡ true → h .0 ≤ k → (i n : ℕ) → n ≡ k + i → i < length xs → firstOf n (getD xs i free) .0 ≤ n
-lay-first [] k c h l low i n e j = absurd (not-suc-le-zero j)
-lay-first (o ∷ os) k zero h l low zero n e j = let s = lay-zero k h o os l in not-body n (s .0) o (s .1)
-lay-first (o ∷ os) k zero h l low (suc i) n e j =
-    let s = lay-zero k h o os l in
-    lay-first os (suc k) (s .0) (slot k) (s .2) (omega arith) i n (omega arith) (le-of-suc-le-suc j)
-lay-first (o ∷ os) k (suc c) h l low zero n e j =
-    let s = lay-suc k c h o os l in
-    rw (goes-body h o (s .0)) (omega arith)
-lay-first (o ∷ os) k (suc c) h l low (suc i) n e j =
-    let s = lay-suc k c h o os l in
-    lay-first os (suc k) c h (s .1) (omega arith) i n (omega arith) (le-of-suc-le-suc j)
-
 -- ---- the place of a number
 module _ (b : List ℕ) (w : Laid (read b)) (x : ℕ) (there : holds (placeNumbered (read b) x) ≡ true) where
   number-small : (z : Bool) → ltb x placeCount ≡ z → x < placeCount
@@ -102,7 +78,7 @@ module _ (b : List ℕ) (w : Laid (read b)) (x : ℕ) (there : holds (placeNumbe
   tableOf = firstOf (x / 2) (objAt (read b) (slot (x / 2)))
 
   low : tableOf .0 ≤ x / 2
-  low = lay-first ((read b) .slots) 0 0 (slot 0) (w .laid) (omega arith) (x / 2) (x / 2) (omega arith) (omega (arith, w .room, numbered-small))
+  low = first-le (read b) w (x / 2) (objAt (read b) (slot (x / 2))) refl
 
   -- its entry is one of the table's
   entry-there : (z : Bool) → ltb (x - 2 * tableOf .0) (entriesIn (read b) tableOf) ≡ z → x - 2 * tableOf .0 < entriesIn (read b) tableOf

@@ -11,9 +11,10 @@ use lib.ListN.{getD, length-replicate, length-set, replicate, set}
 use lib.Seq.{getD-set-other}
 use Rattle.rules.proofs.Chain.{Reaches, To, back, here, snoc, used-of}
 use Rattle.rules.proofs.Codes.{reaches-test, same-test}
-use Rattle.rules.proofs.Fuel.{getD-blank, onward, within}
+use Rattle.rules.proofs.Fuel.{onward, within}
 use Rattle.rules.specs.Chains.{codeOf}
 use Rattle.rules.specs.WellFormed.{reaches}
+use Rattle.state.proofs.Zeros.{copies}
 use Rattle.state.specs.Layout.{Laid}
 use Rattle.state.specs.State.{State, placeNumbered}
 use Rattle.words.specs.Sizes.{placeCount}
@@ -52,7 +53,7 @@ module _ (st : State) (w : Laid st) where
       at y h (no q) = s .shown y (λ z. h (getD-set-other m x y 1 0 q ∙ z))
 
 pub shown-none : (st : State) → Shown st (replicate placeCount 0)
-shown-none st = record { long = length-replicate {A = ℕ} placeCount 0; shown = λ y h. absurd (h (getD-blank placeCount y)) }
+shown-none st = record { long = length-replicate {A = ℕ} placeCount 0; shown = λ y h. absurd (h (copies placeCount y 0)) }
 
 -- ---- what reaches a root is no blank
 used-holds : (p : Place) → (codeOf p ≡ 0 → ⊥) → holds p ≡ true

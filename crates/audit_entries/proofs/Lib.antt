@@ -1,2 +1,4 @@
 pub mod Entries
+pub mod Bounded
 pub mod Vacant
+pub mod Listed

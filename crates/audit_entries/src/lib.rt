@@ -1,6 +1,9 @@
-// The entries of a table as the check of a state walks them: the table's own part of the state, and words that are read where
-// they are known to lie, so that no read is tested again.
+// What the check of a state walks: the slots that are used, the first slots of what stands there, and the entries of a table in its
+// own part of the state, with words that are read where they are known to lie, so that no read is tested again.
+pub mod heads;
+pub mod notes;
 pub mod used;
+
 ghost use mathlib.Core.Path.{_≡_};
 ghost use Prim.Native.Nat.{_+_, _*_, _≤_};
 ghost use lib.ListN.{length, take, drop};

@@ -1,28 +1,31 @@
 // Each object's slots follow its first one, and each later slot names the first: one pass over the notes.
 ghost use mathlib.Core.Path.{_≡_};
+ghost use lib.ListN.{length};
 ghost use Rattle.audit_entries.specs.Vacant.{Vacant};
 ghost use Rattle.rules.specs.WellFormed.{apart};
 ghost use Rattle.state.specs.Layout.{goesOn};
 ghost use Rattle.state.specs.Read.{read};
 ghost use Rattle.state.specs.State.{objAt};
+ghost use Rattle.words.specs.Sizes.{stateLength};
 use crate::sizes::size_at;
-use reading::notes::argument_byte;
-use reading::notes::tag_byte;
+use audit_entries::notes::argument_in;
+use audit_entries::notes::tag_in;
 use words::numbers::Slot;
 
 // Whether the object that stands at `first` goes on in slot k.
 fn goes_on(s: &[u8], first: Slot, k: Slot) -> bool
+    requires { ⌜ length (now s) ≡ stateLength ⌝ }
     ensures { λ r. ⌜ r ≡ goesOn first (objAt (read (now (s .entry))) k) ⌝ }
 {
-    if tag_byte(s, k) != 1 {
+    if tag_in(s, k) != 1 {
         return false;
     }
-    argument_byte(s, k) == first.0
+    argument_in(s, k) == first.0
 }
 
 // `owed` slots still belong to the object that stands at `first`. Behind the n slots that are used nothing can be owed.
 pub fn laid_out(s: &[u8], n: usize) -> bool
-    requires { ⌜ Vacant (now s) n ⌝ }
+    requires { ⌜ (length (now s) ≡ stateLength) × Vacant (now s) n ⌝ }
     ensures { λ r. ⌜ r ≡ apart (read (now (s .entry))) ⌝ }
 {
     let mut owed: u16 = 0;

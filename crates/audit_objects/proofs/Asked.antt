@@ -7,6 +7,7 @@ use native.Mathlib.Omega.{arith}
 use lib.Dec.{eqb, leb, ltb}
 use lib.ListN.{drop, getD, take}
 use borrow.Author.Tests.{eq-eqb, eqb-false, eqb-true, le-leb, leb-false, leb-true, lt-ltb}
+use Rattle.audit_entries.proofs.Bounded.{all-agree}
 use Rattle.rules.specs.WellFormed.{geometric, objectOk, positionOk, runs}
 use Rattle.state.proofs.Look.{argumentByte, count-known, count-none, position-known, shape-known, tag-known, tag-none, tagByte, width-known}
 use Rattle.state.proofs.Parts.{position-part}
@@ -20,7 +21,7 @@ use Rattle.words.proofs.Tests.{and-left, and-right, and-yes}
 use Rattle.words.specs.Sizes.{headerSize, memoryLength, mostEntries, positionSize, slotCount, slotSize, slotsFor}
 use Rattle.words.specs.Tests.{_&_, allBelow}
 use Rattle.audit_objects.specs.Names.{Geometry, Slot}
-use Rattle.audit_objects.proofs.Checks.{all-below-same, word-small}
+use Rattle.audit_objects.proofs.Checks.{word-small}
 
 -- what stands in a slot, by its tag
 table-of-tag : (o : Object) → tagOf o ≡ 2 → o ≡ table (placesOf o)
@@ -115,7 +116,7 @@ ok-positions b k hk f e h =
     ∙ and-yes _ _ h
     ∙ and-yes _ _ (lt-ltb _ _ start)
     ∙ and-yes _ _ (eq-eqb _ _ (all-positions b k hk e h))
-    ∙ all-below-same n _ _
+    ∙ all-agree n _ _
     (λ i l. ap (positionOk (read b) (shapeAt (read b) k))
     (position-known b k i hk l
     ∙ sym (position-part b (slotSize * k .0) (slotSize * slotsFor (headerSize + positionSize * n)) (headerSize + positionSize * i) (omega arith))))

@@ -1,7 +1,7 @@
--- Laws that more than one part of the check needs: tests that agree below a number, what the layout shows, and words of bytes.
-use mathlib.Core.Bool.{Bool, true}
+-- Laws that more than one part of the check needs: what the layout shows, words of bytes, and an object's kind by its tag.
+use mathlib.Core.Bool.{true}
 use mathlib.Core.List.{List}
-use mathlib.Core.Path.{refl, sym, _∙_, _≡_}
+use mathlib.Core.Path.{refl, _≡_}
 use Prim.Native.Nat.{_+_, _<_, _^_, ℕ}
 use native.Mathlib.Omega.{arith}
 use lib.Dec.{eqb}
@@ -12,13 +12,7 @@ use Rattle.state.specs.Bytes.{tagOf}
 use Rattle.state.specs.Layout.{Laid}
 use Rattle.state.specs.Read.{wordAt}
 use Rattle.state.specs.State.{Object, State, body, directory, endpoint, free, process, table}
-use Rattle.words.proofs.Tests.{all-at, all-of, and-left, and-right, iff}
-use Rattle.words.specs.Tests.{allBelow}
-
--- ---- two tests that agree at every number below n
-pub all-below-same : (n : ℕ) (p q : ℕ → Bool) → ((k : ℕ) → k < n → p k ≡ q k) → allBelow n p ≡ allBelow n q
-all-below-same n p q f =
-    iff (allBelow n p) (allBelow n q) (λ e. all-of n q (λ k h. sym (f k h) ∙ all-at n p e k h)) (λ e. all-of n p (λ k h. f k h ∙ all-at n q e k h))
+use Rattle.words.proofs.Tests.{and-left, and-right}
 
 -- ---- "objects lie in kernel memory and don't overlap", as facts
 pub apart-laid : (st : State) → apart st ≡ true → Laid st

@@ -2,8 +2,8 @@
 ghost use mathlib.Core.Bool.{true};
 ghost use mathlib.Core.Path.{_≡_};
 ghost use lib.ListN.{length};
-ghost use Rattle.audit_entries.specs.Vacant.{Vacant};
-ghost use Rattle.words.specs.Sizes.{stateLength};
+ghost use Rattle.audit_entries.specs.Heads.{Heads};
+ghost use Rattle.words.specs.Sizes.{slotCount, stateLength};
 ghost use Rattle.state.specs.Bytes.{tagOf};
 ghost use Rattle.state.specs.Read.{read};
 ghost use Rattle.state.specs.State.{objAt};
@@ -53,17 +53,17 @@ fn object_ok(s: &[u8], k: Slot) -> bool
     }
 }
 
-// Behind the n slots that are used each slot is free.
-pub fn objects_ok(s: &[u8], n: usize) -> bool
-    requires { ⌜ (length (now s) ≡ stateLength) × (apart (read (now s)) ≡ true) × Vacant (now s) n ⌝ }
+// What is not among the n listed slots is free or goes on.
+pub fn objects_ok(s: &[u8], heads: &[u8; 256], n: usize) -> bool
+    requires { ⌜ (length (now s) ≡ stateLength) × (apart (read (now s)) ≡ true) × Heads (now s) (now heads) n slotCount ⌝ }
     ensures { λ r. ⌜ r ≡ everyObject (read (now (s .entry))) (objectOk (read (now (s .entry)))) ⌝ }
 {
-    let mut k: usize = 0;
-    while k < n {
-        if !object_ok(s, Slot(k as u8)) {
+    let mut i: usize = 0;
+    while i < n {
+        if !object_ok(s, Slot(heads[i])) {
             return false;
         }
-        k += 1;
+        i += 1;
     }
     true
 }

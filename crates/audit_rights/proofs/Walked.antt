@@ -5,8 +5,8 @@ use mathlib.Core.Path.{ap, refl, sym, _≡_}
 use Prim.Native.Nat.{_*_, _-_, _/_, _<_, ℕ, _≤_}
 use native.Mathlib.Omega.{arith}
 use lib.ListN.{length}
+use Rattle.audit_entries.proofs.Bounded.{all-agree}
 use Rattle.audit_entries.proofs.Entries.{part-place, slotsOf}
-use Rattle.audit_objects.proofs.Checks.{all-below-same}
 use Rattle.state.proofs.Look.{object-past}
 use Rattle.state.specs.Read.{placeOf, read}
 use Rattle.state.specs.State.{State, entriesIn, firstOf, objAt, placeAt, placeNumbered}
@@ -19,7 +19,7 @@ use Rattle.audit_rights.specs.Names.{Blank, Place, Slot}
 pub entries-part : (p : Place → Bool) (b : List ℕ) → length b ≡ stateLength → (t : Slot) → t .0 < slotCount
     → allBelow (entriesIn (read b) t) (λ e. p (placeAt (read b) t e))
     ≡ allBelow (entriesIn (read b) t) (λ e. p (placeOf (slotsOf b t (entriesIn (read b) t)) (entrySize * e)))
-entries-part p b long t ht = all-below-same (entriesIn (read b) t) _ _ (λ e l. ap p (sym (part-place b long t ht e l)))
+entries-part p b long t ht = all-agree (entriesIn (read b) t) _ _ (λ e l. ap p (sym (part-place b long t ht e l)))
 
 -- ---- the place of a number: there are 512
 pub number-past : (b : List ℕ) (p : ℕ) → placeCount ≤ p → placeNumbered (read b) p ≡ Blank

@@ -3,8 +3,8 @@ ghost use mathlib.Core.Bool.{true};
 ghost use mathlib.Core.Path.{_≡_};
 ghost use Prim.Native.Nat.{_+_, _*_, _≤_};
 ghost use lib.ListN.{length};
-ghost use Rattle.audit_entries.specs.Vacant.{Vacant};
-ghost use Rattle.words.specs.Sizes.{entrySize, stateLength};
+ghost use Rattle.audit_entries.specs.Heads.{Heads};
+ghost use Rattle.words.specs.Sizes.{entrySize, slotCount, stateLength};
 ghost use Rattle.words.specs.Tests.{allBelow};
 ghost use Rattle.state.specs.Read.{originFrom, placeOf, read};
 ghost use Rattle.state.specs.State.{entriesIn, placeAt};
@@ -90,17 +90,17 @@ fn table_ok(s: &[u8], t: Slot) -> bool
     entries_ok(s, part, n as usize)
 }
 
-// Behind the n slots that are used there is no table.
-pub fn rights_ok(s: &[u8], n: usize) -> bool
-    requires { ⌜ (length (now s) ≡ stateLength) × (apart (read (now s)) ≡ true) × Vacant (now s) n ⌝ }
+// Every table is among the n listed slots.
+pub fn rights_ok(s: &[u8], heads: &[u8; 256], n: usize) -> bool
+    requires { ⌜ (length (now s) ≡ stateLength) × (apart (read (now s)) ≡ true) × Heads (now s) (now heads) n slotCount ⌝ }
     ensures { λ r. ⌜ r ≡ everyPlace (read (now (s .entry))) (right (rightButChain (read (now (s .entry))))) ⌝ }
 {
-    let mut t: usize = 0;
-    while t < n {
-        if !table_ok(s, Slot(t as u8)) {
+    let mut i: usize = 0;
+    while i < n {
+        if !table_ok(s, Slot(heads[i])) {
             return false;
         }
-        t += 1;
+        i += 1;
     }
     true
 }

@@ -3,7 +3,7 @@ use mathlib.Core.Bool.{Bool, false, true}
 use mathlib.Core.List.{List}
 use mathlib.Core.Logic.{_≢_}
 use mathlib.Core.Path.{ap, refl, sym, _∙_, _≡_}
-use Prim.Native.Nat.{_*_, _+_, _-_, _<_, ℕ, _≤_}
+use Prim.Native.Nat.{_*_, _+_, _<_, ℕ, _≤_}
 use native.Mathlib.Nat.{le-trans}
 use native.Mathlib.Numerals.{add-one}
 use native.Mathlib.Omega.{arith}
@@ -11,20 +11,21 @@ use lib.Dec.{eqb}
 use lib.ListN.{getD, getD-replicate, length, length-replicate, length-set, replicate, set}
 use lib.Seq.{getD-set-other, getD-set-same}
 use borrow.Author.Tests.{eqb-false, eqb-true, ne-eqb}
+use Rattle.audit_entries.proofs.Bounded.{sum-agree}
 use Rattle.audit_entries.proofs.Entries.{entries-few}
-use Rattle.audit_entries.proofs.Vacant.{vacant-free}
-use Rattle.audit_entries.specs.Vacant.{Vacant}
+use Rattle.audit_entries.proofs.Listed.{no-head}
+use Rattle.audit_entries.specs.Heads.{Heads}
 use Rattle.rules.specs.Calls.{most}
 use Rattle.rules.specs.WellFormed.{one}
 use Rattle.state.specs.Layout.{Laid}
 use Rattle.state.specs.Read.{read}
-use Rattle.state.specs.State.{State, entriesIn, placeAt}
+use Rattle.state.specs.State.{State, entriesIn, placeAt, placesOf}
 use Rattle.words.specs.Fields.{slot}
 use Rattle.words.specs.Sizes.{slotCount}
 use Rattle.words.specs.Tests.{sumBelow}
-use Rattle.audit_roots.specs.Names.{Place}
+use Rattle.audit_roots.specs.Names.{Blank, Place}
 use Rattle.audit_roots.specs.Roots.{Counts, UpTo, keys, more, rootKey, rootsAmong, rootsBelow}
-use Rattle.audit_roots.proofs.Sums.{sum-end, sum-most, sum-upto}
+use Rattle.audit_roots.proofs.Sums.{sum-most}
 
 -- ---- one entry
 -- the count under k is one more, and the others are as they were
@@ -65,7 +66,7 @@ among-next at n k = rw (add-one n)
 
 pub among-same : (at to : ℕ → Place) (n : ℕ) → ((e : ℕ) → e < n → at e ≡ to e) → (k : ℕ) → rootsAmong at n k ≡ rootsAmong to n k
 unfolding rootsAmong
-among-same at to n s k = sum-upto n _ _ (λ e l. ap (λ (p : Place). one (eqb (rootKey p) k)) (s e l))
+among-same at to n s k = sum-agree n _ _ (λ e l. ap (λ (p : Place). one (eqb (rootKey p) k)) (s e l))
 
 one-most : (b : Bool) → one b ≤ 1
 one-most true = omega arith
@@ -75,25 +76,32 @@ pub among-most : (at : ℕ → Place) (n k : ℕ) → rootsAmong at n k ≤ n
 unfolding rootsAmong
 among-most at n k = omega (arith, sum-most 1 n (λ e. one (eqb (rootKey (at e)) k)) (λ e l. one-most (eqb (rootKey (at e)) k)))
 
--- ---- the tables of the slots
+-- ---- the tables of the listed slots
+-- the roots under k in the tables of the first n slots of the list h
+unfoldable pub rootsListed : State → List ℕ → ℕ → ℕ → ℕ
+rootsListed st h n k = sumBelow n (λ i. rootsAmong (placeAt st (slot (getD h i 0))) (entriesIn st (slot (getD h i 0))) k)
+
 pub none-below : (st : State) → Counts (replicate keys 0) (rootsBelow st 0)
 unfolding rootsBelow sumBelow
 none-below st = record { long = length-replicate {A = ℕ} keys 0; each-count = λ k l. getD-replicate {A = ℕ} keys k 0 0 l }
 
-pub below-next : (st : State) (n k : ℕ) → rootsBelow st (n + 1) k ≡ rootsBelow st n k + rootsAmong (placeAt st (slot n)) (entriesIn st (slot n)) k
-unfolding rootsBelow sumBelow
-below-next st n k = rw (add-one n)
+pub listed-none : (st : State) (h : List ℕ) (k : ℕ) → rootsBelow st 0 k ≡ rootsListed st h 0 k
+unfolding rootsBelow rootsListed sumBelow
+listed-none st h k = refl
 
-pub below-most : (st : State) → Laid st → (n k : ℕ) → rootsBelow st n k ≤ 512 * n
-unfolding rootsBelow
-below-most st w n k =
-    sum-most 512 n _ (λ s l. le-trans (among-most (placeAt st (slot s)) (entriesIn st (slot s)) k) (entries-few st w (slot s)))
+pub listed-next : (st : State) (h : List ℕ) (n k : ℕ)
+    → rootsListed st h (n + 1) k ≡ rootsListed st h n k + rootsAmong (placeAt st (slot (getD h n 0))) (entriesIn st (slot (getD h n 0))) k
+unfolding rootsListed sumBelow
+listed-next st h n k = rw (add-one n)
 
--- behind the slots that are used there is no table
-pub below-vacant : (b : List ℕ) (n : ℕ) → Vacant b n → (k : ℕ) → rootsBelow (read b) n k ≡ rootsBelow (read b) slotCount k
-unfolding rootsBelow
-below-vacant b n v k =
-    let e : n + (slotCount - n) ≡ slotCount = omega (arith, v .few) in
-    sym
-    (ap (λ (i : ℕ). sumBelow i (λ s. rootsAmong (placeAt (read b) (slot s)) (entriesIn (read b) (slot s)) k)) (sym e)
-    ∙ sum-end (slotCount - n) n _ (λ x h l. rw (vacant-free b n v x h (omega arith)) (among-zero _ k)))
+pub listed-most : (st : State) → Laid st → (h : List ℕ) (n k : ℕ) → rootsListed st h n k ≤ 512 * n
+unfolding rootsListed
+listed-most st w h n k =
+    sum-most 512 n _ (λ i l. le-trans (among-most (placeAt st (slot (getD h i 0))) (entriesIn st (slot (getD h i 0))) k) (entries-few st w (slot (getD h i 0))))
+
+-- they are the roots of all slots
+pub listed-all : (b h : List ℕ) (n : ℕ) → Heads b h n slotCount → (k : ℕ) → rootsListed (read b) h n k ≡ rootsBelow (read b) slotCount k
+unfolding rootsListed rootsBelow
+listed-all b h n w k =
+    w .sum (λ s. rootsAmong (placeAt (read b) (slot s)) (entriesIn (read b) (slot s)) k)
+    (λ j l t. no-head b j l t (λ o. rootsAmong (λ e. getD (placesOf o) e Blank) (length (placesOf o)) k ≡ 0) (among-zero _ k) (λ f. among-zero _ k))

@@ -8,6 +8,7 @@ use native.Mathlib.Omega.{arith}
 use lib.Dec.{eqb}
 use lib.ListN.{getD}
 use borrow.Author.Tests.{eq-eqb, eqb-true, ne-eqb}
+use Rattle.audit_entries.proofs.Bounded.{sum-agree}
 use Rattle.rules.specs.Buffer.{same}
 use Rattle.rules.specs.WellFormed.{everyPlace, isRootOf, names, objectNo, one, oneRoot, right, rootsOf}
 use Rattle.state.proofs.Write.{object-inside}
@@ -21,7 +22,6 @@ use Rattle.words.specs.Sizes.{slotCount}
 use Rattle.words.specs.Tests.{_&_}
 use Rattle.audit_roots.specs.Names.{Blank, Directory, Endpoint, Function, Holds, Kind, Memory, Origin, Place, Process, Root, Slot, Table, Under}
 use Rattle.audit_roots.specs.Roots.{keyOf, keyUnder, keys, named, rootKey, rootsAmong, rootsBelow}
-use Rattle.audit_roots.proofs.Sums.{sum-upto}
 
 -- the second of two tests, where the first follows from it
 second : (a z : Bool) → (z ≡ true → a ≡ true) → z ≡ (a & z)
@@ -55,7 +55,7 @@ module _ (st : State) (given : named st ≡ true) where
 
     pub roots-are : rootsBelow st slotCount key ≡ rootsOf st n o
     unfolding rootsBelow rootsAmong rootsOf
-    roots-are = sum-upto slotCount _ _ (λ s hs. sum-upto (entriesIn st (slot s)) _ _ (λ e he. ap one (place-is (placeAt st (slot s) e) (place-named s hs e he))))
+    roots-are = sum-agree slotCount _ _ (λ s hs. sum-agree (entriesIn st (slot s)) _ _ (λ e he. ap one (place-is (placeAt st (slot s) e) (place-named s hs e he))))
 
 -- ---- an object's first slot is the number of its own roots
 module _ (st : State) (o : Slot) (n : ℕ) (inside : o .0 < slotCount) (stands : objectNo (objAt st o) ≡ n) (n3 : n ≢ 3) (n6 : n ≢ 6) where

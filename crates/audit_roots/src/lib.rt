@@ -4,7 +4,7 @@ ghost use mathlib.Core.Path.{_≡_};
 ghost use Prim.Native.Nat.{_+_, _*_, _<_, _≤_};
 ghost use lib.Dec.{eqb};
 ghost use lib.ListN.{length};
-ghost use Rattle.audit_entries.specs.Vacant.{Vacant};
+ghost use Rattle.audit_entries.specs.Heads.{Heads};
 ghost use Rattle.words.specs.Fields.{slot};
 ghost use Rattle.words.specs.Sizes.{slotCount, stateLength, entrySize, placeCount};
 ghost use Rattle.words.specs.Tests.{allBelow};
@@ -77,15 +77,15 @@ fn count_slot(s: &[u8], t: Slot, counts: &mut [u32; 258])
     count_table(table_slots(s, t, n), n, counts);
 }
 
-// The roots in every table: there is none behind the n slots that are used.
-fn count_all(s: &[u8], n: usize, counts: &mut [u32; 258])
-    requires { ⌜ (length (now s) ≡ stateLength) × Laid (read (now s)) × Vacant (now s) n × Counts (now counts) (rootsBelow (read (now s)) 0) ⌝ }
+// The roots in every table: each is among the n listed slots.
+fn count_all(s: &[u8], heads: &[u8; 256], n: usize, counts: &mut [u32; 258])
+    requires { ⌜ (length (now s) ≡ stateLength) × Laid (read (now s)) × Heads (now s) (now heads) n slotCount × Counts (now counts) (rootsBelow (read (now s)) 0) ⌝ }
     ensures { λ r. ⌜ Counts (now (counts .exit)) (rootsBelow (read (now (s .entry))) slotCount) ⌝ }
 {
-    let mut k: usize = 0;
-    while k < n {
-        count_slot(s, Slot(k as u8), counts);
-        k += 1;
+    let mut i: usize = 0;
+    while i < n {
+        count_slot(s, Slot(heads[i]), counts);
+        i += 1;
     }
 }
 
@@ -100,27 +100,27 @@ fn one_root(s: &[u8], counts: &[u32; 258], k: Slot) -> bool
     counts[k.0 as usize] == 1
 }
 
-fn objects_rooted(s: &[u8], n: usize, counts: &[u32; 258]) -> bool
-    requires { ⌜ Ready (now s) × Vacant (now s) n × Counts (now counts) (rootsBelow (read (now s)) slotCount) ⌝ }
+fn objects_rooted(s: &[u8], heads: &[u8; 256], n: usize, counts: &[u32; 258]) -> bool
+    requires { ⌜ Ready (now s) × Heads (now s) (now heads) n slotCount × Counts (now counts) (rootsBelow (read (now s)) slotCount) ⌝ }
     ensures { λ r. ⌜ r ≡ everyObject (read (now (s .entry))) (oneRoot (read (now (s .entry)))) ⌝ }
 {
-    let mut k: usize = 0;
-    while k < n {
-        if !one_root(s, counts, Slot(k as u8)) {
+    let mut i: usize = 0;
+    while i < n {
+        if !one_root(s, counts, Slot(heads[i])) {
             return false;
         }
-        k += 1;
+        i += 1;
     }
     true
 }
 
-pub fn roots_ok(s: &[u8], n: usize) -> bool
-    requires { ⌜ Ready (now s) × Vacant (now s) n ⌝ }
+pub fn roots_ok(s: &[u8], heads: &[u8; 256], n: usize) -> bool
+    requires { ⌜ Ready (now s) × Heads (now s) (now heads) n slotCount ⌝ }
     ensures { λ r. ⌜ r ≡ rooted (read (now (s .entry))) ⌝ }
 {
     let mut counts = [0u32; 258];
-    count_all(s, n, &mut counts);
-    if !objects_rooted(s, n, &counts) {
+    count_all(s, heads, n, &mut counts);
+    if !objects_rooted(s, heads, n, &counts) {
         return false;
     }
     if counts[256] != 1 {

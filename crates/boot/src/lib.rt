@@ -8,10 +8,15 @@ ghost use Rattle.state.specs.Bytes.{bytes};
 ghost use Rattle.rules.specs.Boot;
 ghost use Rattle.boot.specs.Names.{Holds};
 ghost use Rattle.boot.specs.Stages.{withObjects, withRights, withPages, bootPage};
-
-use words::capabilities::{Capability, Frost, Kind, Origin, Place, Position};
+use words::capabilities::Capability;
+use words::capabilities::Frost;
+use words::capabilities::Kind;
+use words::capabilities::Origin;
+use words::capabilities::Place;
+use words::capabilities::Position;
 use words::kinds::all_flags;
-use words::numbers::{KernelAddress, Slot};
+use words::numbers::KernelAddress;
+use words::numbers::Slot;
 use writing::bytes::put_run;
 use writing::directories::store_position;
 use writing::notes::store_notes;
@@ -51,10 +56,35 @@ fn store_rights(s: &mut [u8])
     ensures { λ _. ⌜ now (s .exit) ≡ withRights (now (s .entry)) ⌝ }
 {
     store_place(s, Slot(0), 0, root_of(Kind::Table(Slot(0))));
-    store_place(s, Slot(0), 1, root_of(Kind::Directory { object: Slot(16), low: 0, high: 7 }));
+    store_place(
+        s,
+        Slot(0),
+        1,
+        root_of(Kind::Directory {
+            object: Slot(16),
+            low: 0,
+            high: 7,
+        }),
+    );
     store_place(s, Slot(0), 2, root_of(Kind::Process(Slot(18))));
-    store_place(s, Slot(0), 3, root_of(Kind::Function { low: 0, high: 65535 }));
-    store_place(s, Slot(0), 4, root_of(Kind::Memory { low: KernelAddress(0x20000000), high: KernelAddress(0x20004000) }));
+    store_place(
+        s,
+        Slot(0),
+        3,
+        root_of(Kind::Function {
+            low: 0,
+            high: 65535,
+        }),
+    );
+    store_place(
+        s,
+        Slot(0),
+        4,
+        root_of(Kind::Memory {
+            low: KernelAddress(0x20000000),
+            high: KernelAddress(0x20004000),
+        }),
+    );
     store_place(s, Slot(0), 5, root_of(Kind::Endpoint(Slot(19))));
 }
 
@@ -63,7 +93,10 @@ fn page_of(i: u32) -> Position
     requires { ⌜ i < 8 ⌝ }
     ensures { λ r. ⌜ r ≡ bootPage i ⌝ }
 {
-    Position::Page { frame: i * 0x20000000, flags: 63 }
+    Position::Page {
+        frame: i * 0x20000000,
+        flags: 63,
+    }
 }
 
 fn store_pages(s: &mut [u8])

@@ -1,6 +1,7 @@
 // Document 01's worked cases that bear no mark P, each from boot by caller 18: what was done, and the answer.
 use kernel::calls::kernel_call;
-use kernel::states::{kernel_boot, kernel_tick};
+use kernel::states::kernel_boot;
+use kernel::states::kernel_tick;
 use libc::STDOUT_FILENO;
 
 fn say(text: &[u8]) {
@@ -42,20 +43,45 @@ fn ticks(s: &mut [u8; 17472], n: u32) {
 fn granted(s: &mut [u8; 17472]) {
     boot(s);
     case(b"grant: ", call(s, 0x08030410, 6, 4, 0x20002000), 0, b"0");
-    case(b"endpoint at 0x200007C0 through it: ", call(s, 0x00100000, 6, 7, 0x200007C0), 0, b"0");
+    case(
+        b"endpoint at 0x200007C0 through it: ",
+        call(s, 0x00100000, 6, 7, 0x200007C0),
+        0,
+        b"0",
+    );
     boot(s);
     case(b"grant: ", call(s, 0x08030410, 6, 4, 0x20002000), 0, b"0");
-    case(b"endpoint at 0x20000800 through it: ", call(s, 0x00100000, 6, 7, 0x20000800), -5, b"-5");
+    case(
+        b"endpoint at 0x20000800 through it: ",
+        call(s, 0x00100000, 6, 7, 0x20000800),
+        -5,
+        b"-5",
+    );
 }
 
 // "Frozen at tick t: delete at t+7 is −8, at t+8 passes to REFCNT": the boot directory's root, which the boot process uses.
 fn frozen(s: &mut [u8; 17472]) {
     boot(s);
-    case(b"freeze the directory's root: ", call(s, 0x00040000, 1, 0, 0), 0, b"0");
+    case(
+        b"freeze the directory's root: ",
+        call(s, 0x00040000, 1, 0, 0),
+        0,
+        b"0",
+    );
     ticks(s, 7);
-    case(b"delete after 7 ticks: ", call(s, 0x00070000, 1, 0, 0), -8, b"-8");
+    case(
+        b"delete after 7 ticks: ",
+        call(s, 0x00070000, 1, 0, 0),
+        -8,
+        b"-8",
+    );
     ticks(s, 1);
-    case(b"delete after 8 ticks: ", call(s, 0x00070000, 1, 0, 0), -9, b"-9");
+    case(
+        b"delete after 8 ticks: ",
+        call(s, 0x00070000, 1, 0, 0),
+        -9,
+        b"-9",
+    );
 }
 
 // The boot endpoint's count, the first word of slot 19.
@@ -70,12 +96,27 @@ fn fill_count(s: &mut [u8; 17472]) {
 fn full(s: &mut [u8; 17472]) {
     boot(s);
     fill_count(s);
-    case(b"count 2^32-1, send: ", call(s, 0x00120000, 5, 0, 0), -14, b"-14");
-    case(b"receive NM: ", call(s, 0x00130000, 5, 3, 0), 2147483647, b"2147483647");
+    case(
+        b"count 2^32-1, send: ",
+        call(s, 0x00120000, 5, 0, 0),
+        -14,
+        b"-14",
+    );
+    case(
+        b"receive NM: ",
+        call(s, 0x00130000, 5, 3, 0),
+        2147483647,
+        b"2147483647",
+    );
     if s[1219] == 128 {
         say(b"left: 2147483648\n");
     }
-    case(b"receive NM: ", call(s, 0x00130000, 5, 3, 0), 2147483647, b"2147483647");
+    case(
+        b"receive NM: ",
+        call(s, 0x00130000, 5, 3, 0),
+        2147483647,
+        b"2147483647",
+    );
     case(b"receive NS: ", call(s, 0x00130000, 5, 2, 0), 1, b"1");
     case(b"receive NS: ", call(s, 0x00130000, 5, 2, 0), 0, b"0");
 }

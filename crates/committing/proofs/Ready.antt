@@ -2,32 +2,25 @@
 use mathlib.Core.Bool.{true}
 use mathlib.Core.List.{List}
 use mathlib.Core.Path.{_≡_}
-use Prim.Native.Nat.{ℕ, _<_, _≤_, _^_}
+use Prim.Native.Nat.{ℕ, _<_, _^_}
 use native.Mathlib.Omega.{arith}
-use borrow.Author.Tests.{leb-true}
 use Rattle.words.specs.Try.{ok! }
 use Rattle.words.proofs.Flags.{subset-le}
-use Rattle.words.proofs.Tests.{and-left, and-right}
 use Rattle.state.specs.State.{State}
 use Rattle.state.specs.Read.{read}
 use Rattle.rules.specs.Buffer.{sound}
 use Rattle.rules.specs.Calls.{plan}
 use Rattle.rules.specs.Commit.{success}
 use Rattle.rules.specs.Formed.{Formed}
-use Rattle.rules.specs.WellFormed.{geometric, still, wf}
-use Rattle.rules.proofs.Facts.{wf-open}
+use Rattle.rules.specs.WellFormed.{still, wf}
+use Rattle.rules.proofs.Facts.{number-few, wf-open}
 use Rattle.rules.proofs.Lift.{sound-open}
 use Rattle.passed.specs.Passed.{Becomes, Passed, PassedCall}
 use Rattle.passed.proofs.Walks.{passed}
 use Rattle.writing.specs.Flags.{positionFlags}
-use Rattle.committing.specs.Names.{Action, Answer, ChangeDirectory, ChangeTable, Child, CreateDirectory, CreateEndpoint, CreateProcess, CreateTable, Delete, Empty, Fill, Freeze, Geometry, Page, Position, Remove, SetCount, SetPosition, Slot, Words}
+use Rattle.committing.specs.Names.{Action, Answer, ChangeDirectory, ChangeTable, Child, CreateDirectory, CreateEndpoint, CreateProcess, CreateTable, Delete, Empty, Fill, Freeze, Page, Position, Remove, SetCount, SetPosition, Slot, Words}
 use Rattle.committing.specs.Ready.{Ready}
 use Rattle.committing.proofs.Standing.{process-stands, endpoint-stands, doomed-stands, site-of, page-flags}
-
--- "number order 1..8"
-number-few : (g : Geometry) → geometric g ≡ true → g .number ≤ 8
-unfolding geometric
-number-few g h = leb-true _ _ (and-left _ _ (and-right _ _ (and-right _ _ (and-right _ _ h))))
 
 module _ (st : State) (w : Formed (still st)) (t : Slot) where
   flags-few : (d : Slot) (x : Position) → Becomes st t d x → positionFlags x < 256

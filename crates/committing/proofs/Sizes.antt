@@ -1,19 +1,15 @@
 -- The slots that an object takes, by its tag: what `size_at` reads of a note is enough.
-use mathlib.Core.Bool.{Bool, true, false}
 use mathlib.Core.List.{List}
 use mathlib.Core.Path.{_≡_, refl}
-use Prim.Native.Nat.{ℕ, _+_, _*_, _<_, _≤_}
-use native.Mathlib.Decide.{ℕ-discrete, decLt}
+use Prim.Native.Nat.{ℕ, _+_, _*_, _<_}
+use native.Mathlib.Decide.{decLt}
 use native.Mathlib.Omega.{arith}
-use lib.Dec.{leb}
 use lib.ListN.{length}
-use lib.Pow.{pow-mono}
-use borrow.Author.Tests.{leb-true}
 use Rattle.words.specs.Sizes.{slotCount, slotsFor}
-use Rattle.state.specs.State.{Object, free, body, table, directory, process, endpoint, sizeOf, placesOf, positionsOf, objAt, positionsIn}
+use Rattle.state.specs.State.{Object, free, body, table, directory, process, endpoint, sizeOf, placesOf, positionsOf, objAt}
 use Rattle.state.specs.Bytes.{tagOf}
-use Rattle.state.specs.Read.{positionsFor, read}
-use Rattle.state.proofs.Look.{tagByte, argumentByte, tag-known, tag-none, width-known, width-none, entries-known}
+use Rattle.state.specs.Read.{read}
+use Rattle.state.proofs.Look.{tagByte, argumentByte, tag-known, tag-none, entries-known}
 use Rattle.committing.specs.Names.{Slot}
 
 pub part-size : (o : Object) → tagOf o ≡ 1 → sizeOf o ≡ 0
@@ -48,22 +44,7 @@ one-slot (directory g es) h i j = absurd (j refl)
 one-slot (process t d) h i j = refl
 one-slot (endpoint c b) h i j = refl
 
--- at most 256 positions
-for-few : (k : ℕ) → positionsFor k ≤ 256
-unfolding positionsFor
-for-few k = go (leb k 8) refl
-  where
-    go : (z : Bool) → leb k 8 ≡ z → positionsFor k ≤ 256
-    go true e = rw e (pow-mono {i = k} {j = 8} (leb-true k 8 e))
-    go false e = rw e (omega arith)
-
 module _ (b : List ℕ) (t : Slot) (ht : t .0 < slotCount) where
-  pub positions-few : positionsIn (read b) t ≤ 256
-  positions-few = elim (ℕ-discrete (tagByte b (t .0)) 3) [
-    | yes e ↦ omega (arith, width-known b t ht e, for-few (argumentByte b (t .0)))
-    | no d ↦ omega (arith, width-none b t ht d)
-  ]
-
   -- what stands there is what the note's tag says
   note-tag : tagOf (objAt (read b) t) ≡ 2 → tagByte b (t .0) ≡ 2
   note-tag h = elim (decLt 5 (tagByte b (t .0))) [

@@ -6,49 +6,25 @@ use native.Mathlib.Omega.{arith}
 use borrow.Author.Tests.{leb-true}
 use Rattle.words.specs.Sizes.{slotCount}
 use Rattle.words.proofs.Tests.{and-right, all-at}
-use Rattle.state.specs.State.{Object, free, body, table, directory, process, endpoint, State, objAt, positionsIn, positionAt, positionsOf, shapeOf}
+use Rattle.state.specs.State.{directory, State, objAt, positionsIn, positionAt, positionsOf, shapeOf}
 use Rattle.state.specs.Bytes.{tagOf}
 use Rattle.state.proofs.Write.{is-directory}
 use Rattle.rules.specs.Formed.{Formed}
 use Rattle.rules.specs.WellFormed.{objectNo, objectOk, positionOk, still}
 use Rattle.rules.proofs.Inside.{laid-out, stands-inside}
+use Rattle.rules.proofs.Named.{number-tag, some-tag}
 use Rattle.passed.specs.Found.{By, Stands}
 use Rattle.passed.specs.Passed.{Creation, Doomed, a-table, a-directory, a-process, an-endpoint}
 use Rattle.passed.proofs.Stand.{Standing, stands-held, stands-found, plot-fits}
 use Rattle.committing.specs.Names.{Capability, Endpoint, Kind, Page, Process, Slot, Spot}
 use Rattle.committing.specs.Ready.{Site}
 
--- the tag of what a right of a kind names
-process-tag : (o : Object) → objectNo o ≡ 4 → tagOf o ≡ 4
-process-tag free h = absurd (omega arith)
-process-tag (body f) h = absurd (omega arith)
-process-tag (table ps) h = absurd (omega arith)
-process-tag (directory g es) h = absurd (omega arith)
-process-tag (process t d) h = h
-process-tag (endpoint c b) h = absurd (omega arith)
-
-endpoint-tag : (o : Object) → objectNo o ≡ 5 → tagOf o ≡ 5
-endpoint-tag free h = absurd (omega arith)
-endpoint-tag (body f) h = absurd (omega arith)
-endpoint-tag (table ps) h = absurd (omega arith)
-endpoint-tag (directory g es) h = absurd (omega arith)
-endpoint-tag (process t d) h = absurd (omega arith)
-endpoint-tag (endpoint c b) h = h
-
-some-tag : (o : Object) → 1 ≤ objectNo o → 2 ≤ tagOf o
-some-tag free h = absurd (omega arith)
-some-tag (body f) h = absurd (omega arith)
-some-tag (table ps) h = omega arith
-some-tag (directory g es) h = omega arith
-some-tag (process t d) h = omega arith
-some-tag (endpoint c b) h = omega arith
-
 module _ (st : State) (w : Formed (still st)) where
   pub process-stands : (t p : Slot) → By st t (Process p) → tagOf (objAt st p) ≡ 4
-  process-stands t p b = process-tag (objAt st p) (stands-found st w b)
+  process-stands t p b = let n = stands-found st w b in number-tag (objAt st p) (omega arith) ∙ n
 
   pub endpoint-stands : (t e : Slot) → By st t (Endpoint e) → tagOf (objAt st e) ≡ 5
-  endpoint-stands t e b = endpoint-tag (objAt st e) (stands-found st w b)
+  endpoint-stands t e b = let n = stands-found st w b in number-tag (objAt st e) (omega arith) ∙ n
 
   -- the object of a root to delete
   doomed-some : (o : Slot) (k : Kind) → Doomed st o k → Standing st k → 1 ≤ objectNo (objAt st o)

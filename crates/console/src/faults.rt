@@ -1,5 +1,7 @@
 // What is wrong with a line, and what a right one looks like.
-use crate::out::{put, put_byte, put_decimal};
+use crate::out::put;
+use crate::out::put_byte;
+use crate::out::put_decimal;
 use lines::requests::Fault;
 
 fn put_word_number(out: &mut [u8; 8192], used: usize, k: u32) -> usize {
@@ -12,9 +14,17 @@ fn put_reason(out: &mut [u8; 8192], used: usize, f: Fault) -> usize {
         Fault::AfterBoot => put(out, used, b"boot takes nothing after it"),
         Fault::AfterShow => put(out, used, b"show takes nothing after it"),
         Fault::TickForm => put(out, used, b"tick takes one number, as in: tick 8"),
-        Fault::Start => put(out, used, b"begin with boot, tick, show or the caller's number"),
+        Fault::Start => put(
+            out,
+            used,
+            b"begin with boot, tick, show or the caller's number",
+        ),
         Fault::Count(k) => {
-            let u = put(out, used, b"a call is five numbers, CALLER W0 W1 W2 W3, and here are ");
+            let u = put(
+                out,
+                used,
+                b"a call is five numbers, CALLER W0 W1 W2 W3, and here are ",
+            );
             put_decimal(out, u, k as u64)
         }
         Fault::NotANumber(k) => {

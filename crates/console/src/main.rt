@@ -9,9 +9,12 @@ mod steps;
 
 use crate::faults::put_long_line;
 use crate::out::flush;
-use crate::steps::{boot, step};
-use libc::{STDERR_FILENO, STDIN_FILENO};
-use lines::gather::{first, gather};
+use crate::steps::boot;
+use crate::steps::step;
+use libc::STDERR_FILENO;
+use libc::STDIN_FILENO;
+use lines::gather::first;
+use lines::gather::gather;
 use lines::requests::request_in;
 
 // How far the input has been read: the bytes of the line that is not yet ended (1,025 stands for any more than 1,024), the lines
@@ -23,7 +26,13 @@ struct Progress {
 }
 
 // The line that ends here; answers how much waits to be printed.
-fn end_line(s: &mut [u8; 17472], line: &[u8], p: Progress, in_words: bool, out: &mut [u8; 8192]) -> usize {
+fn end_line(
+    s: &mut [u8; 17472],
+    line: &[u8],
+    p: Progress,
+    in_words: bool,
+    out: &mut [u8; 8192],
+) -> usize {
     let number = std::num::wrapping_add_u64(p.lines, 1);
     if 1024 < p.length {
         return put_long_line(out, p.used, number);
@@ -32,16 +41,38 @@ fn end_line(s: &mut [u8; 17472], line: &[u8], p: Progress, in_words: bool, out: 
     step(s, r, number, in_words, out, p.used)
 }
 
-fn take_byte(s: &mut [u8; 17472], line: &mut [u8; 1024], p: Progress, byte: u8, in_words: bool, out: &mut [u8; 8192]) -> Progress {
+fn take_byte(
+    s: &mut [u8; 17472],
+    line: &mut [u8; 1024],
+    p: Progress,
+    byte: u8,
+    in_words: bool,
+    out: &mut [u8; 8192],
+) -> Progress {
     let g = gather(line, p.length, byte);
     if !g.ended {
-        return Progress { length: g.length, lines: p.lines, used: p.used };
+        return Progress {
+            length: g.length,
+            lines: p.lines,
+            used: p.used,
+        };
     }
     let used = end_line(s, line, p, in_words, out);
-    Progress { length: 0, lines: std::num::wrapping_add_u64(p.lines, 1), used }
+    Progress {
+        length: 0,
+        lines: std::num::wrapping_add_u64(p.lines, 1),
+        used,
+    }
 }
 
-fn take_bytes(s: &mut [u8; 17472], line: &mut [u8; 1024], p: Progress, bytes: &[u8], in_words: bool, out: &mut [u8; 8192]) -> Progress {
+fn take_bytes(
+    s: &mut [u8; 17472],
+    line: &mut [u8; 1024],
+    p: Progress,
+    bytes: &[u8],
+    in_words: bool,
+    out: &mut [u8; 8192],
+) -> Progress {
     let mut now = p;
     for i in 0..bytes.len() {
         now = take_byte(s, line, now, bytes[i], in_words, out);
@@ -56,22 +87,42 @@ struct Turn {
 }
 
 // Reads what there is, does its lines and writes what they print before it waits again, so that a person sees each answer at once.
-fn read_once(s: &mut [u8; 17472], line: &mut [u8; 1024], p: Progress, in_words: bool, out: &mut [u8; 8192]) -> Turn {
+fn read_once(
+    s: &mut [u8; 17472],
+    line: &mut [u8; 1024],
+    p: Progress,
+    in_words: bool,
+    out: &mut [u8; 8192],
+) -> Turn {
     let mut chunk = [0u8; 4096];
     let got = libc::read(STDIN_FILENO, &mut chunk);
     let n = io::count(got, &chunk);
     if n == 0 {
-        return Turn { progress: p, goes_on: false };
+        return Turn {
+            progress: p,
+            goes_on: false,
+        };
     }
     let now = take_bytes(s, line, p, &chunk[..n], in_words, out);
     flush(out, now.used);
-    let progress = Progress { length: now.length, lines: now.lines, used: 0 };
-    Turn { progress, goes_on: true }
+    let progress = Progress {
+        length: now.length,
+        lines: now.lines,
+        used: 0,
+    };
+    Turn {
+        progress,
+        goes_on: true,
+    }
 }
 
 // A proved loop has to end, and nothing says that the input does: the turns are counted down from a number that no run uses up.
 fn run(s: &mut [u8; 17472], line: &mut [u8; 1024], in_words: bool, out: &mut [u8; 8192]) {
-    let mut p = Progress { length: 0, lines: 0, used: 0 };
+    let mut p = Progress {
+        length: 0,
+        lines: 0,
+        used: 0,
+    };
     let mut turns: u64 = 0xFFFFFFFFFFFFFFFF;
     while 0 < turns {
         let t = read_once(s, line, p, in_words, out);
@@ -100,7 +151,13 @@ fn first_argument() -> Argument {
     }
     let mut word = [0u8; 8];
     let n = os::arg(1, &mut word);
-    if n == 5 && word[0] == b'w' && word[1] == b'o' && word[2] == b'r' && word[3] == b'd' && word[4] == b's' {
+    if n == 5
+        && word[0] == b'w'
+        && word[1] == b'o'
+        && word[2] == b'r'
+        && word[3] == b'd'
+        && word[4] == b's'
+    {
         return Argument::Words;
     }
     Argument::Unknown
@@ -119,7 +176,10 @@ fn main() {
         Argument::Absent => start(false),
         Argument::Words => start(true),
         Argument::Unknown => {
-            io::write_all(STDERR_FILENO, b"console: the one argument that it takes is: words\n");
+            io::write_all(
+                STDERR_FILENO,
+                b"console: the one argument that it takes is: words\n",
+            );
         }
     }
 }

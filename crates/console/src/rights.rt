@@ -1,8 +1,14 @@
 // A right as `show` prints it: kind and object or range, flags, the frozen mark, and where it comes from.
-use crate::out::{put, put_decimal, put_hex};
+use crate::out::put;
+use crate::out::put_decimal;
+use crate::out::put_hex;
 use reading::notes::first_at;
-use words::capabilities::{Capability, Frost, Kind, Origin};
-use words::numbers::{KernelAddress, Slot};
+use words::capabilities::Capability;
+use words::capabilities::Frost;
+use words::capabilities::Kind;
+use words::capabilities::Origin;
+use words::numbers::KernelAddress;
+use words::numbers::Slot;
 
 fn put_object(name: &[u8], o: Slot, out: &mut [u8; 8192], used: usize) -> usize {
     let u = put(out, used, name);

@@ -1,14 +1,23 @@
 // The state, a fact a line: the clock, each object by rising slot, and under tables and directories what they hold. Everything is
 // read by the readers that the judges use.
-use crate::out::{put, put_byte, put_decimal, put_hex};
+use crate::out::put;
+use crate::out::put_byte;
+use crate::out::put_decimal;
+use crate::out::put_hex;
 use crate::rights::put_right;
 use reading::clock::clock;
-use reading::directories::{position_at, positions_in, shape_at};
-use reading::endpoints::{boot_mark_at, count_at};
+use reading::directories::position_at;
+use reading::directories::positions_in;
+use reading::directories::shape_at;
+use reading::endpoints::boot_mark_at;
+use reading::endpoints::count_at;
 use reading::notes::tag_at;
-use reading::processes::{directory_named, table_named};
-use reading::tables::{entries_in, place_at};
-use words::capabilities::{Place, Position};
+use reading::processes::directory_named;
+use reading::processes::table_named;
+use reading::tables::entries_in;
+use reading::tables::place_at;
+use words::capabilities::Place;
+use words::capabilities::Position;
 use words::numbers::Slot;
 
 // "  3: ", the number of an entry or a position.

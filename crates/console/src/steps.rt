@@ -3,8 +3,10 @@ use crate::answers::put_answer;
 use crate::faults::put_fault;
 use crate::show::show;
 use kernel::calls::kernel_call;
-use kernel::states::{kernel_boot, kernel_tick};
-use lines::requests::{Call, Request};
+use kernel::states::kernel_boot;
+use kernel::states::kernel_tick;
+use lines::requests::Call;
+use lines::requests::Request;
 
 pub fn boot(s: &mut [u8; 17472]) {
     kernel_boot(s);
@@ -30,7 +32,14 @@ fn call_number(w0: u32) -> u32 {
     w0 / 65536 % 64
 }
 
-pub fn step(s: &mut [u8; 17472], r: Request, number: u64, in_words: bool, out: &mut [u8; 8192], used: usize) -> usize {
+pub fn step(
+    s: &mut [u8; 17472],
+    r: Request,
+    number: u64,
+    in_words: bool,
+    out: &mut [u8; 8192],
+    used: usize,
+) -> usize {
     match r {
         Request::Nothing => used,
         Request::Boot => {

@@ -1,5 +1,7 @@
 // A first look: boots a buffer, ticks, checks it, damages one byte at a time and checks again. Each line is what was done and the answer.
-use kernel::states::{kernel_boot, kernel_check, kernel_tick};
+use kernel::states::kernel_boot;
+use kernel::states::kernel_check;
+use kernel::states::kernel_tick;
 use libc::STDOUT_FILENO;
 
 fn say(text: &[u8]) {

@@ -3,7 +3,7 @@ use mathlib.Core.Bool.{not}
 use Rattle.rules.specs.Places.{hasChildren, hasUsers, quiet}
 use Rattle.state.specs.State.{State}
 use Rattle.words.specs.Rights.{isRoot}
-use Rattle.words.specs.Try.{_>>_, _>>=_, Try, need, ok!}
+use Rattle.words.specs.Try.{_>>_, _>>=_, Try, need, ok! }
 use Rattle.judging_deletions.specs.Names.{CapRefcnt, Capability, Slot, Spot}
 
 unfoldable pub afterType : State → Spot → Capability → Slot → Try Slot

@@ -2,23 +2,21 @@
 -- directory, the directories of all slots.
 use mathlib.Core.Bool.{Bool, false, true}
 use mathlib.Core.List.{List}
-use mathlib.Core.Path.{ap, refl, subst, sym, _∙_, _≡_}
-use Prim.Native.Nat.{_*_, _+_, _<_, _^_, suc, zero, ℕ, _≤_}
+use mathlib.Core.Path.{ap, subst, sym, _∙_, _≡_}
+use Prim.Native.Nat.{_*_, _+_, _<_, suc, zero, ℕ, _≤_}
 use native.Mathlib.Nat.{le-step, lt-suc-self}
 use native.Mathlib.Omega.{arith}
-use lib.Dec.{eqb, leb}
 use lib.ListN.{drop, take}
-use lib.Pow.{pow-mono}
-use borrow.Author.Tests.{eqb-false, eqb-true, leb-true}
 use Rattle.rules.specs.Calls.{hangsSomewhere, hasChildDirectory, isChild, isChildAt}
-use Rattle.state.proofs.Look.{argumentByte, position-known, tagByte, width-known, width-none}
+use Rattle.state.proofs.Few.{few-positions}
+use Rattle.state.proofs.Look.{position-known}
 use Rattle.state.proofs.Parts.{position-part}
-use Rattle.state.specs.Read.{positionOf, positionsFor, read}
+use Rattle.state.specs.Read.{positionOf, read}
 use Rattle.state.specs.State.{positionAt, positionsIn}
 use Rattle.words.proofs.Tests.{any-found, any-more, any-none, any-zero}
 use Rattle.words.specs.Fields.{slot}
 use Rattle.words.specs.Sizes.{headerSize, positionSize, slotCount, slotSize, slotsFor}
-use Rattle.words.specs.Tests.{anyBelow, choose}
+use Rattle.words.specs.Tests.{anyBelow}
 use Rattle.judging_directories.specs.Names.{Slot}
 
 none-of : (n : ℕ) (p : ℕ → Bool) → ((k : ℕ) → k < n → p k ≡ false) → anyBelow n p ≡ false
@@ -36,25 +34,9 @@ thisAt b d k i = isChildAt d (positionAt (read b) (slot k) i)
 abbrev pub thisIn : List ℕ → Slot → ℕ → Bool
 thisIn b d k = anyBelow (positionsIn (read b) (slot k)) (thisAt b d k)
 
--- "2^k entries, k from 1 to 8"
-few-for : (k : ℕ) → positionsFor k ≤ 256
-unfolding positionsFor
-few-for k = go (leb k 8) refl
-  where
-    go : (z : Bool) → leb k 8 ≡ z → choose z (2 ^ k) 0 ≤ 256
-    go true e = pow-mono {i = k} {j = 8} (leb-true _ _ e)
-    go false e = omega arith
-
 module _ (b : List ℕ) where
-  pub few-positions : (t : Slot) → t .0 < slotCount → positionsIn (read b) t ≤ 256
-  few-positions t h = go (eqb (tagByte b (t .0)) 3) refl
-    where
-      go : (z : Bool) → eqb (tagByte b (t .0)) 3 ≡ z → positionsIn (read b) t ≤ 256
-      go true q = rw (width-known b t h (eqb-true _ _ q)) (few-for (argumentByte b (t .0)))
-      go false q = rw (width-none b t h (eqb-false _ _ q)) (omega arith)
-
   pub few-at : (k : ℕ) (t : Slot) → k < slotCount → t ≡ slot k → positionsIn (read b) t ≤ 256
-  few-at k t h q = rw q (few-positions (slot k) h)
+  few-at k t h q = rw q (few-positions b (slot k) h)
 
   -- in the part that the directory's slots are, the position is the one of the state
   position-here : (part : List ℕ) (t : Slot) (positions i : ℕ) → t .0 < slotCount → positions ≡ positionsIn (read b) t

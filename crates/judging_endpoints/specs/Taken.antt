@@ -3,7 +3,7 @@ use Prim.Native.Nat.{_-_, min, ℕ}
 use Rattle.rules.specs.Calls.{most}
 use Rattle.state.specs.State.{State, countOf, objAt}
 use Rattle.words.specs.Fields.{count}
-use Rattle.words.specs.Try.{Try, ok!}
+use Rattle.words.specs.Try.{Try, ok! }
 use Rattle.judging_endpoints.specs.Names.{Action, SetCount, Slot}
 
 unfoldable pub taken : State → Slot → ℕ → Try Action

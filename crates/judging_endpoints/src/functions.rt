@@ -3,13 +3,17 @@ ghost use mathlib.Core.Path.{_≡_};
 ghost use Rattle.words.specs.Answers.{toldPlan};
 ghost use Rattle.state.specs.Read.{read};
 ghost use Rattle.rules.specs.Calls.{function};
-
 use judging_numbers::kinds::as_function;
 use judging_numbers::lookups::look_up;
 use reading::clock::clock;
 use words::actions::Action;
-use words::answers::{Plan, RangeAnswer, RightAnswer, why_range, why_right};
-use words::fields::{Words, number_in_c};
+use words::answers::Plan;
+use words::answers::RangeAnswer;
+use words::answers::RightAnswer;
+use words::answers::why_range;
+use words::answers::why_right;
+use words::fields::Words;
+use words::fields::number_in_c;
 use words::numbers::Slot;
 use words::refusals::Refusal;
 

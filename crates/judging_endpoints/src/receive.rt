@@ -7,14 +7,20 @@ ghost use Rattle.words.specs.Answers.{toldPlan};
 ghost use Rattle.state.specs.Read.{read};
 ghost use Rattle.rules.specs.Calls;
 ghost use Rattle.judging_endpoints.specs.Taken;
-
 use judging_numbers::kinds::as_endpoint;
-use judging_numbers::lookups::{has_flag, look_up};
+use judging_numbers::lookups::has_flag;
+use judging_numbers::lookups::look_up;
 use reading::endpoints::count_at;
 use words::actions::Action;
-use words::answers::{Plan, RightAnswer, SlotAnswer, why_right, why_slot};
-use words::fields::{Words, number_in_word};
-use words::numbers::{Count, Slot};
+use words::answers::Plan;
+use words::answers::RightAnswer;
+use words::answers::SlotAnswer;
+use words::answers::why_right;
+use words::answers::why_slot;
+use words::fields::Words;
+use words::fields::number_in_word;
+use words::numbers::Count;
+use words::numbers::Slot;
 use words::refusals::Refusal;
 
 // The two options that do not block.
@@ -53,7 +59,11 @@ fn taken(s: &[u8], e: Slot, o: u32) -> Plan
     let n = count_at(s, e);
     let waiting = n.0;
     let m = least(waiting, most(o));
-    Plan::Do(Action::SetCount { endpoint: e, count: Count(waiting - m), taken: Count(m) })
+    Plan::Do(Action::SetCount {
+        endpoint: e,
+        count: Count(waiting - m),
+        taken: Count(m),
+    })
 }
 
 pub fn judge_receive(s: &[u8], t: Slot, w: Words) -> Plan

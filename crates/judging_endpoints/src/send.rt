@@ -3,13 +3,16 @@ ghost use mathlib.Core.Path.{_≡_};
 ghost use Rattle.words.specs.Answers.{toldPlan};
 ghost use Rattle.state.specs.Read.{read};
 ghost use Rattle.rules.specs.Calls.{send};
-
 use judging_numbers::arguments::endpoint_arg;
 use reading::endpoints::count_at;
 use words::actions::Action;
-use words::answers::{Plan, SlotAnswer, why_slot};
-use words::fields::{Words, number_in_word};
-use words::numbers::{Count, Slot};
+use words::answers::Plan;
+use words::answers::SlotAnswer;
+use words::answers::why_slot;
+use words::fields::Words;
+use words::fields::number_in_word;
+use words::numbers::Count;
+use words::numbers::Slot;
 use words::refusals::Refusal;
 
 pub fn judge_send(s: &[u8], t: Slot, w: Words) -> Plan
@@ -22,7 +25,11 @@ pub fn judge_send(s: &[u8], t: Slot, w: Words) -> Plan
     let n = count_at(s, e);
     let waiting = n.0;
     if waiting < 0xFFFFFFFF {
-        return Plan::Do(Action::SetCount { endpoint: e, count: Count(waiting + 1), taken: Count(0) });
+        return Plan::Do(Action::SetCount {
+            endpoint: e,
+            count: Count(waiting + 1),
+            taken: Count(0),
+        });
     }
     Plan::Refused(Refusal::SivFull)
 }

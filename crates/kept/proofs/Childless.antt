@@ -4,7 +4,7 @@ use mathlib.Core.Path.{ap, refl, sym, _∙_, _≡_}
 use Prim.Native.Nat.{_+_, _<_, ℕ}
 use native.Mathlib.Omega.{arith}
 use borrow.Author.Tests.{eq-eqb}
-use Rattle.rules.proofs.Inside.{laid-out}
+use Rattle.rules.proofs.Inside.{entries-in, laid-out}
 use Rattle.rules.specs.Chains.{codeOf, codes, originCode}
 use Rattle.rules.specs.Formed.{Formed}
 use Rattle.rules.specs.Places.{hasChildren, isChildOf}
@@ -16,7 +16,7 @@ use Rattle.kept.specs.Names.{Blank, Capability, Holds, Origin, Place, Ro
 use Rattle.kept.proofs.Base.{base}
 use Rattle.kept.proofs.Descent.{Fits, fits-gone}
 use Rattle.kept.proofs.PutPlace.{but-numbered}
-use Rattle.kept.proofs.Slots.{entries-in, holds-in}
+use Rattle.kept.proofs.Slots.{holds-in}
 
 under-code : (n : ℕ) (p : Place) → codeOf p ≡ n + 2 → isChildOf n p ≡ true
 under-code n Blank h = absurd (omega arith)

@@ -2,11 +2,11 @@
 use mathlib.Core.Bool.{false, true}
 use mathlib.Core.List.{List}
 use mathlib.Core.Path.{ap, refl, subst, sym, _∙_, _≡_}
-use Prim.Native.Nat.{_-_, _<_, _^_, suc, zero, ℕ}
+use Prim.Native.Nat.{_-_, _<_, _^_, suc, ℕ}
 use native.Mathlib.Nat.{le-refl}
 use native.Mathlib.Omega.{arith}
 use lib.Dec.{leb}
-use lib.ListN.{getD, length, length-replicate, replicate}
+use lib.ListN.{length, length-replicate, replicate}
 use lib.Pow.{pow-pos}
 use borrow.Author.Tests.{eq-eqb, le-leb, lt-ltb}
 use Rattle.passed.proofs.Stand.{plot-fits, stands-found}
@@ -15,6 +15,7 @@ use Rattle.rules.proofs.Facts.{right-close}
 use Rattle.rules.specs.Commit.{commit}
 use Rattle.rules.specs.Formed.{Formed}
 use Rattle.rules.specs.WellFormed.{descends, endsOk, names, objectNo, objectOk, positionOk, rightOk, runs, still, whole}
+use Rattle.state.proofs.Zeros.{copies}
 use Rattle.state.proofs.New.{Vacant, directory-slots, table-slots}
 use Rattle.state.specs.State.{Object, State, directory, endpoint, objAt, positionsIn, positionsOf, process, putPlace, raise, sizeOf, table}
 use Rattle.words.proofs.Tests.{all-of, and-both}
@@ -27,11 +28,6 @@ use Rattle.kept.proofs.Created.{created}
 use Rattle.kept.proofs.Raise.{raise-runs, raised}
 use Rattle.kept.proofs.Roots.{Of, of-directory, of-endpoint, of-process, of-table}
 use Rattle.kept.proofs.Stand.{Bare}
-
-blanks : {A : Type 0} (n e : ℕ) (d : A) → getD (replicate n d) e d ≡ d
-blanks zero e d = refl
-blanks (suc n) zero d = refl
-blanks (suc n) (suc e) d = blanks n e d
 
 -- a root with every flag and its whole range
 root-ok : (st : State) (k : Kind) → names st k ≡ true → endsOk st k ≡ true → whole st k ≡ true → rightOk st (rootRight k) ≡ true
@@ -58,7 +54,7 @@ module _ (st : State) (w : Formed (still st)) where
   unfolding objectOk names endsOk whole
   table-made {s = s} {n = n} h =
       let long : length (replicate n Blank) ≡ n = length-replicate n Blank in
-      made (h .creation) (table (replicate n Blank)) 0 (record { number = refl; some = omega (arith, table-slots n, h .some); blank = λ i. blanks n i Blank }) (table-slots n) (Table s) (of-table s)
+      made (h .creation) (table (replicate n Blank)) 0 (record { number = refl; some = omega (arith, table-slots n, h .some); blank = λ i. copies n i Blank }) (table-slots n) (Table s) (of-table s)
       (λ _. subst (λ (i : ℕ). (leb 1 i & leb i 64) ≡ true) (sym long) (and-both _ _ (le-leb _ _ (h .some)) (le-leb _ _ (h .most))))
       (λ at. root-ok _ (Table s) (eq-eqb _ _ (ap objectNo at)) refl refl)
 
@@ -72,7 +68,7 @@ module _ (st : State) (w : Formed (still st)) where
       let some : 0 < m = pow-pos (g .number) in
       let small : g .start < 2 ^ 32 = omega (arith, h .start) in
       made (h .creation) o 1 (record { number = refl; some = omega (arith, directory-slots g m); blank = λ i. refl }) (directory-slots g m) (Directory s 0 (m - 1)) (of-directory s 0 (m - 1))
-      (λ _. and-both _ _ (h .shape) (and-both _ _ (lt-ltb _ _ small) (and-both _ _ (eq-eqb _ _ long) (all-of _ _ (λ i l. ap (positionOk (raise ss s o) g) (blanks m i Empty))))))
+      (λ _. and-both _ _ (h .shape) (and-both _ _ (lt-ltb _ _ small) (and-both _ _ (eq-eqb _ _ long) (all-of _ _ (λ i l. ap (positionOk (raise ss s o) g) (copies m i Empty))))))
       (λ at.
       let many : positionsIn (raise ss s o) s ≡ m = ap (λ (x : Object). length (positionsOf x)) at ∙ long in
       let low : 0 < positionsIn (raise ss s o) s = omega arith in

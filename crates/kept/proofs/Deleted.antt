@@ -12,6 +12,7 @@ use lib.ListN.{getD, length}
 use borrow.Author.Tests.{eq-eqb, eqb-true}
 use Rattle.passed.specs.Found.{Stands}
 use Rattle.rules.proofs.Inside.{laid-out, stands-inside}
+use Rattle.rules.proofs.Named.{some-tag}
 use Rattle.rules.specs.Calls.{hangsSomewhere, isChildAt}
 use Rattle.rules.specs.Formed.{Formed}
 use Rattle.rules.specs.Places.{hasChildren, hasUsers, isUserOf}
@@ -25,7 +26,6 @@ use Rattle.words.specs.Rights.{isBlank, isRoot}
 use Rattle.kept.specs.Names.{Blank, Capability, Child, Empty, Holds, Place, Slot, Spot}
 use Rattle.kept.proofs.Base.{Base, base}
 use Rattle.kept.proofs.Childless.{childless-fits}
-use Rattle.kept.proofs.Objects.{tag-of}
 use Rattle.kept.proofs.PutPlace.{place-apart, place-base, place-like, place-put, roots-less}
 use Rattle.kept.proofs.Raze.{raze-base, raze-left, raze-roots}
 use Rattle.kept.proofs.Roots.{Of, formed-of, root-here, root-other, rooted-at, rooted-same, rootedNo}
@@ -71,7 +71,7 @@ module _ (st : State) (w : Formed st) (p : Spot) (c : Capability) (o : Slot) (i 
   bare : Bare (objAt st₁ o) i
   bare = record {
     number = ap objectNo o-same ∙ number;
-    some = object-some st₁ (base₁ .laid) o (tag-of (objAt st₁ o) i (ap objectNo o-same ∙ number));
+    some = object-some st₁ (base₁ .laid) o (some-tag (objAt st₁ o) (omega (arith, ap objectNo o-same ∙ number)));
     blank = λ a. ap (λ (x : Object). getD (placesOf x) a Blank) o-same ∙ blank a;
   }
 

@@ -5,7 +5,6 @@ use mathlib.Core.Path.{ap, subst, sym, _∙_, _≡_}
 use Prim.Native.Nat.{suc, ℕ}
 use native.Mathlib.Decide.{decLt}
 use native.Mathlib.Omega.{arith}
-use lib.ListN.{List·getD-eq-default}
 use borrow.Author.Tests.{eqb-true}
 use Rattle.passed.proofs.Arguments.{is-blank}
 use Rattle.passed.proofs.Stand.{Standing, stands-held}
@@ -15,7 +14,8 @@ use Rattle.rules.specs.Commit.{commit}
 use Rattle.rules.specs.Formed.{Formed}
 use Rattle.rules.specs.Places.{hasChildren, hasUsers}
 use Rattle.rules.specs.WellFormed.{hangs, objectNo, positionOk, still}
-use Rattle.state.specs.State.{State, entriesIn, objAt, placeAt, placesOf, shapeAt}
+use Rattle.state.proofs.Look.{place-past}
+use Rattle.state.specs.State.{State, entriesIn, objAt, placeAt, shapeAt}
 use Rattle.words.proofs.Tests.{all-at, and-left}
 use Rattle.words.specs.Fields.{slot}
 use Rattle.kept.specs.Names.{Blank, Child, Delete, Directory, Endpoint, Kind, Process, Slot, Spot, Table}
@@ -39,7 +39,7 @@ module _ (st : State) (w : Formed (still st)) where
 
   empty-table : (o : Slot) → isEmptyTable st o ≡ true → (a : ℕ) → placeAt st o a ≡ Blank
   unfolding isEmptyTable
-  empty-table o h a = elim (decLt a (entriesIn st o)) [ yes l ↦ is-blank _ (all-at _ _ h a l) | no n ↦ List·getD-eq-default (placesOf (objAt st o)) Blank (omega arith) ]
+  empty-table o h a = elim (decLt a (entriesIn st o)) [ yes l ↦ is-blank _ (all-at _ _ h a l) | no n ↦ place-past st o a (omega arith) ]
 
   -- ---- by the kind of what goes
   module _ {t : Slot} {p : Spot} {o : Slot} (h : Deletion st t p o) where

@@ -4,7 +4,6 @@ use mathlib.Core.Logic.{_≢_}
 use mathlib.Core.Path.{ap, refl, subst, sym, _∙_, _≡_}
 use Prim.Native.Nat.{_+_, ℕ}
 use native.Mathlib.Decide.{ℕ-discrete}
-use native.Mathlib.Omega.{arith}
 use Rattle.words.proofs.Tests.{and-both, and-left, and-right}
 use Rattle.state.specs.Layout.{Laid}
 use Rattle.state.specs.State.{State, placeNumbered}

@@ -8,6 +8,7 @@ use borrow.Author.Tests.{eq-eqb, lt-ltb, ltb-true}
 use Rattle.passed.proofs.Stand.{stands-found}
 use Rattle.passed.specs.Passed.{Counted, DirectoryChanged, TableChanged}
 use Rattle.rules.proofs.Inside.{laid-out, stands-inside}
+use Rattle.rules.proofs.Named.{number-tag}
 use Rattle.rules.specs.Commit.{commit}
 use Rattle.rules.specs.Formed.{Formed}
 use Rattle.rules.specs.WellFormed.{objectNo, objectOk, runs, still}
@@ -16,7 +17,6 @@ use Rattle.state.specs.State.{State, bootMark, countOf, directoryNamed, endpoin
 use Rattle.words.proofs.Tests.{and-both, and-left, and-right}
 use Rattle.words.specs.Fields.{count}
 use Rattle.kept.specs.Names.{ChangeDirectory, ChangeTable, Count, SetCount, Slot}
-use Rattle.kept.proofs.Objects.{tagged}
 use Rattle.kept.proofs.Put.{put-formed}
 
 module _ (st : State) (w : Formed (still st)) where
@@ -25,7 +25,7 @@ module _ (st : State) (w : Formed (still st)) where
 
   -- ---- what a process names
   process-is : (p : Slot) → objectNo (objAt st p) ≡ 4 → objAt st p ≡ process (tableNamed (objAt st p)) (directoryNamed (objAt st p))
-  process-is p h = is-process (objAt st p) (omega (arith, tagged (objAt st p) 3 h .high (omega arith)))
+  process-is p h = is-process (objAt st p) (number-tag (objAt st p) (omega arith) ∙ h)
 
   process-put : (p t d : Slot) → objectNo (objAt st p) ≡ 4 → runs (still st) t d ≡ true → Formed (still (put st p (process t d)))
   unfolding objectOk
@@ -50,7 +50,7 @@ module _ (st : State) (w : Formed (still st)) where
 
   -- ---- an endpoint's count
   endpoint-is : (e : Slot) → objectNo (objAt st e) ≡ 5 → objAt st e ≡ endpoint (count (countOf (objAt st e))) (bootMark (objAt st e))
-  endpoint-is e h = is-endpoint (objAt st e) (omega (arith, tagged (objAt st e) 4 h .high (omega arith)))
+  endpoint-is e h = is-endpoint (objAt st e) (number-tag (objAt st e) (omega arith) ∙ h)
 
   counted : (e : Slot) → objectNo (objAt st e) ≡ 5 → countOf (objAt st e) < 2 ^ 32
   unfolding objectOk

@@ -10,6 +10,7 @@ use native.Mathlib.Omega.{arith}
 use lib.ListN.{getD, length}
 use lib.Seq.{getD-set-other, getD-set-same}
 use Rattle.rules.proofs.Inside.{laid-out, stands-inside}
+use Rattle.rules.proofs.Named.{some-tag}
 use Rattle.rules.specs.Formed.{Formed}
 use Rattle.rules.specs.WellFormed.{isRootOf, objectNo, objectOk, one, right, rightOk, rootsOf}
 use Rattle.state.proofs.LaidAfter.{laid-put}
@@ -20,7 +21,6 @@ use Rattle.words.specs.Fields.{slot}
 use Rattle.words.specs.Tests.{sumBelow}
 use Rattle.kept.specs.Names.{Blank, Holds, Place, Slot, Spot}
 use Rattle.kept.proofs.Descent.{fits-same}
-use Rattle.kept.proofs.Objects.{tag-of}
 use Rattle.kept.proofs.Roots.{formed-same}
 use Rattle.kept.proofs.Stay.{Like, like-eq, object-alike, right-alike, spot-alike}
 
@@ -58,7 +58,7 @@ module _ (st : State) (w : Formed st) (d : Slot) (x : Object) (is : objAt st d �
   like = put-like st (laid-out w) d o hd l
 
   laid : Laid st′
-  laid = laid-put st (laid-out w) d o (λ z. omega (arith, tag-of o i (alike .number ∙ number))) (λ z. omega (arith, tag-of (objAt st d) i (ap objectNo is ∙ number))) (l .size)
+  laid = laid-put st (laid-out w) d o (λ z. omega (arith, some-tag o (omega (arith, alike .number ∙ number)))) (λ z. omega (arith, some-tag (objAt st d) (omega (arith, ap objectNo is ∙ number)))) (l .size)
 
   places-same : (k : ℕ) → placesOf (objAt st′ (slot k)) ≡ placesOf (objAt st (slot k))
   places-same k = elim (ℕ-discrete k (d .0)) [

@@ -11,6 +11,7 @@ use native.Mathlib.Omega.{arith}
 use lib.Dec.{leb}
 use lib.ListN.{getD, length, length-set, set}
 use lib.Seq.{getD-set-other, getD-set-same}
+use Rattle.rules.proofs.Inside.{entries-in}
 use Rattle.rules.specs.Formed.{Formed}
 use Rattle.rules.specs.WellFormed.{isRootOf, objectOk, one, right, rightOk, rootsOf}
 use Rattle.state.proofs.LaidAfter.{laid-place}
@@ -26,7 +27,7 @@ use Rattle.kept.proofs.Base.{Base}
 use Rattle.kept.proofs.Descent.{Fits, fits-fresh}
 use Rattle.kept.proofs.Put.{put-here, put-like, put-there}
 use Rattle.kept.proofs.Roots.{formed-same}
-use Rattle.kept.proofs.Slots.{entries-in, number-spot, numbered}
+use Rattle.kept.proofs.Slots.{number-spot, numbered}
 use Rattle.kept.proofs.Stay.{Like, object-alike, right-alike, spot-alike}
 
 -- this place, or another

@@ -12,11 +12,11 @@ use Rattle.words.specs.Rights.{kindNo, objectOf}
 use Rattle.state.specs.Layout.{Laid}
 use Rattle.state.specs.State.{Object, State, free, objAt, placesOf, positionAt, positionsIn, process, raze, sizeOf}
 use Rattle.state.proofs.LaidAfter.{laid-raze}
+use Rattle.rules.proofs.Named.{some-tag}
 use Rattle.rules.specs.WellFormed.{names, objectNo, objectOk, rootsOf}
 use Rattle.rules.proofs.Facts.{right-open}
 use Rattle.kept.specs.Names.{Blank, Child, Directory, Endpoint, Function, Kind, Memory, Process, Slot, Table}
 use Rattle.kept.proofs.Base.{Base}
-use Rattle.kept.proofs.Objects.{tag-of}
 use Rattle.kept.proofs.Stand.{Bare, Stand, Zone, apart, first, later, numbered-same, stand-raze, stand-roots, vacant-first, zone}
 use Rattle.kept.proofs.Stay.{Fresh, Like, NeKind, base-stay, like-eq}
 use Rattle.kept.proofs.Unnamed.{unnamed}
@@ -31,10 +31,10 @@ module _ (st : State) (w : Base st) (s : Slot) (i : ℕ) (n : Bare (objAt st s) 
   Ne k = k .0 ≢ s .0
 
   razed : Stand st′ st s (objAt st s)
-  razed = stand-raze st (w .laid) s (tag-of (objAt st s) i (n .number))
+  razed = stand-raze st (w .laid) s (some-tag (objAt st s) (omega (arith, n .number)))
 
   laid : Laid st′
-  laid = laid-raze st (w .laid) s (tag-of (objAt st s) i (n .number))
+  laid = laid-raze st (w .laid) s (some-tag (objAt st s) (omega (arith, n .number)))
 
   -- what is another object stays
   stays : (k : Slot) → 0 < objectNo (objAt st k) → Ne k → objAt st′ k ≡ objAt st k

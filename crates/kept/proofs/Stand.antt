@@ -5,20 +5,20 @@ use Prim.Native.Nat.{_*_, _+_, _-_, _/_, _<_, suc, ℕ, _≤_}
 use native.Mathlib.Decide.{decLt, ℕ-discrete}
 use native.Mathlib.Nat.{add-zero}
 use native.Mathlib.Omega.{arith}
-use lib.ListN.{getD, getD-replicate, length, length-replicate, replicate}
+use lib.ListN.{getD, length}
 use Rattle.words.specs.Fields.{slot}
 use Rattle.words.specs.Tests.{sumBelow}
 use Rattle.words.proofs.Tests.{sum-same, sum-zero}
 use Rattle.state.specs.Bytes.{tagOf}
 use Rattle.state.specs.Layout.{Laid}
-use Rattle.state.specs.State.{Object, State, body, directory, endpoint, entriesIn, firstOf, free, objAt, placeAt, placeNumbered, placesOf, process, raise, raze, risen, sizeOf, table}
-use Rattle.state.proofs.Elsewhere.{raise-first, splice-in, splice-stays}
+use Rattle.state.specs.State.{Object, State, body, directory, endpoint, entriesIn, firstOf, free, objAt, placeAt, placeNumbered, placesOf, process, raise, raze, sizeOf, table}
+use Rattle.state.proofs.Bodies.{part-of}
+use Rattle.state.proofs.Elsewhere.{raise-apart, raise-first, raise-part, raze-apart, raze-free}
 use Rattle.state.proofs.New.{Vacant}
-use Rattle.state.proofs.Run.{object-fits, object-part, risen-length}
+use Rattle.state.proofs.Run.{object-fits, object-part}
 use Rattle.rules.specs.WellFormed.{isRootOf, objectNo, one, rootsOf}
 use Rattle.kept.specs.Names.{Blank, Place, Slot}
 use Rattle.kept.proofs.Objects.{first-self}
-use Rattle.kept.proofs.Slots.{part-of}
 
 -- what is made and what is deleted: it has a number, takes a slot at least, and holds no right
 pub record Bare (o : Object) (i : ℕ) : Type 0 where
@@ -51,26 +51,13 @@ pub record Stand (a b : State) (s : Slot) (o : Object) : Type 0 where
 -- ---- creation and deletion
 pub stand-raise : (st : State) → Laid st → (s : Slot) (o : Object) → 1 ≤ sizeOf o → Vacant st s (sizeOf o) → Stand st (raise st s o) s o
 stand-raise st w s o some r =
-    let long : length (risen s o) ≡ sizeOf o = risen-length s o some in
-    let fits : s .0 + length (risen s o) ≤ length (st .slots) = omega (arith, w .room, r .fits) in
-    record {
-      vacant = r .none;
-      here = raise-first st w s o some (r .fits) (r .none);
-      part = λ j l. splice-in free (risen s o) (st .slots) (s .0) fits (suc j) (omega arith) ∙ getD-replicate (sizeOf o - 1) j (body s) free (omega arith);
-      same = λ k d. splice-stays free (risen s o) (st .slots) (s .0) fits k (λ j l e. d j (omega arith) e);
-    }
+    let fits : s .0 + sizeOf o ≤ length (st .slots) = omega (arith, w .room, r .fits) in
+    record { vacant = r .none; here = raise-first st s o some fits; part = raise-part st s o some fits; same = raise-apart st s o some fits }
 
 pub stand-raze : (st : State) → Laid st → (s : Slot) → 2 ≤ tagOf (objAt st s) → Stand (raze st s) st s (objAt st s)
 stand-raze st w s tag =
-    let n : ℕ = sizeOf (objAt st s) in
-    let long : length (replicate n free) ≡ n = length-replicate n free in
-    let fits : s .0 + length (replicate n free) ≤ length (st .slots) = omega (arith, w .room, object-fits st w s tag) in
-    record {
-      vacant = λ j l. splice-in free (replicate n free) (st .slots) (s .0) fits j (omega arith) ∙ getD-replicate n j free free l;
-      here = refl;
-      part = object-part st w s tag;
-      same = λ k d. sym (splice-stays free (replicate n free) (st .slots) (s .0) fits k (λ j l e. d j (omega arith) e));
-    }
+    let fits : s .0 + sizeOf (objAt st s) ≤ length (st .slots) = omega (arith, w .room, object-fits st w s tag) in
+    record { vacant = raze-free st s fits; here = refl; part = object-part st w s tag; same = λ k d. sym (raze-apart st s fits k d) }
 
 -- ---- what the two states share
 module _ (a b : State) (w : Laid a) (s : Slot) (o : Object) (i : ℕ) (n : Bare o i) (x : Stand a b s o) where

@@ -13,7 +13,7 @@ use Rattle.words.specs.Tests.{_&_}
 use Rattle.words.proofs.Tests.{all-at, all-of, and-both, and-left, and-right}
 use Rattle.state.specs.Layout.{Laid}
 use Rattle.state.specs.State.{Object, State, body, directory, endpoint, entriesIn, firstOf, free, objAt, placeAt, placeNumbered, placesOf, positionsOf, process, shapeOf, sizeOf, spotNumbered, table}
-use Rattle.rules.proofs.Inside.{top-stands}
+use Rattle.rules.proofs.Named.{top-stands}
 use Rattle.rules.specs.WellFormed.{descends, endsOk, hangs, names, objectNo, objectOk, positionOk, right, rightOk, runs, whole}
 use Rattle.rules.proofs.Facts.{right-close, right-open}
 use Rattle.kept.specs.Names.{Blank, Capability, Child, Directory, Empty, Endpoint, Function, Geometry, Holds, Kind, Memory, Origin, Page, Place, Position, Process, Root, Slot, Table, Under}

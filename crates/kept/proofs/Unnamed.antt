@@ -6,6 +6,7 @@ use native.Mathlib.Omega.{arith}
 use borrow.Author.Tests.{eq-eqb}
 use Rattle.rules.proofs.Chain.{Reaches, child, root}
 use Rattle.rules.proofs.Facts.{right-open}
+use Rattle.rules.proofs.Inside.{entries-in}
 use Rattle.rules.specs.Chains.{codeOf, codes, originCode}
 use Rattle.rules.specs.Places.{spot}
 use Rattle.rules.specs.WellFormed.{descends, isRootOf, one, parentFits, right, rightOk, rootsOf}
@@ -18,7 +19,7 @@ use Rattle.words.specs.Tests.{sumBelow}
 use Rattle.kept.specs.Names.{Blank, Capability, Holds, Origin, Place, Root, Slot, Spot, Under}
 use Rattle.kept.proofs.Base.{Base}
 use Rattle.kept.proofs.Descent.{fits-of, reaches-right}
-use Rattle.kept.proofs.Slots.{entries-in, holds-in, numbered}
+use Rattle.kept.proofs.Slots.{holds-in, numbered}
 
 module _ (st : State) (w : Base st) (o : Slot) (n : ℕ) (none : rootsOf st n o ≡ 0) where
   right-ok : (p : ℕ) (c : Capability) → placeNumbered st p ≡ Holds c → rightOk st c ≡ true

@@ -16,7 +16,7 @@ use Rattle.words.proofs.Judged.{not-no, ok-eq}
 use Rattle.words.specs.Grants.{pack, told, unpack}
 use Rattle.words.specs.Refusals.{number}
 use Rattle.words.specs.Tests.{choose}
-use Rattle.words.specs.Try.{Try, no!, ok!}
+use Rattle.words.specs.Try.{Try, no!, ok! }
 use Rattle.kernel.specs.Demands.{Determined, Listed, refusal, success}
 use Rattle.kernel.specs.Names.{Action, BadState, Grant, Packed, Packing, Words}
 use Rattle.kernel.specs.Script.{RunResult, runResult}

@@ -8,7 +8,7 @@ use Rattle.words.specs.Fields.{address}
 use Rattle.words.specs.Grants.{pack, unpack}
 use Rattle.words.specs.Refusals.{number}
 use Rattle.words.specs.Tests.{choose}
-use Rattle.words.specs.Try.{Try, no!, ok!}
+use Rattle.words.specs.Try.{Try, no!, ok! }
 use Rattle.kernel.specs.Names.{Grant, Packed}
 
 pub record WordsResult : Type 0 where

@@ -2,14 +2,14 @@
 ghost use mathlib.Core.Path.{_≡_};
 ghost use Rattle.rules.specs.Buffer.{callOutcome};
 ghost use Rattle.rules.specs.Cases.{four};
-
 use audit::well_formed;
 use committing::actions::carry_out;
 use committing::answers::answer_of;
 use judging::judge;
 use words::answers::Plan;
 use words::fields::Words;
-use words::refusals::{Refusal, refusal_number};
+use words::refusals::Refusal;
+use words::refusals::refusal_number;
 
 // The caller's slot and the four words N:C, P1, P2, P3. Order: −19, −18, −17, then the arguments.
 #[no_mangle]
@@ -19,7 +19,16 @@ pub extern "C" fn kernel_call(s: &mut [u8], caller: u32, w0: u32, w1: u32, w2: u
     if !well_formed(s) {
         return refusal_number(Refusal::BadState);
     }
-    let p = judge(s, caller, Words { nc: w0, p1: w1, p2: w2, p3: w3 });
+    let p = judge(
+        s,
+        caller,
+        Words {
+            nc: w0,
+            p1: w1,
+            p2: w2,
+            p3: w3,
+        },
+    );
     match p {
         Plan::Do(a) => {
             carry_out(s, a);

@@ -2,8 +2,11 @@
 // values that they carry.
 ghost use mathlib.Core.Path.{_≡_};
 ghost use Rattle.kernel.specs.Grants.{packResult, unpackResult};
-
-use words::grants::{Grant, Packed, Packing, pack_grant, unpack_grant};
+use words::grants::Grant;
+use words::grants::Packed;
+use words::grants::Packing;
+use words::grants::pack_grant;
+use words::grants::unpack_grant;
 use words::numbers::KernelAddress;
 use words::refusals::refusal_number;
 
@@ -16,7 +19,11 @@ pub extern "C" fn kernel_pack(lower: u32, upper: u32, flags: u32, words: &mut [u
     if words.len() < 2 {
         return -61;
     }
-    let p = pack_grant(Grant { lower: KernelAddress(lower), upper: KernelAddress(upper), flags });
+    let p = pack_grant(Grant {
+        lower: KernelAddress(lower),
+        upper: KernelAddress(upper),
+        flags,
+    });
     match p {
         Packing::Words(w) => {
             words[0] = w.nc;

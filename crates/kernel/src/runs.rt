@@ -3,7 +3,6 @@
 ghost use mathlib.Core.Path.{_≡_};
 ghost use Rattle.rules.specs.Run.{happens};
 ghost use Rattle.kernel.specs.Script.{eventFrom, runResult};
-
 use crate::calls::kernel_call;
 use crate::states::kernel_tick;
 
@@ -33,7 +32,14 @@ pub extern "C" fn kernel_run(s: &mut [u8], script: &[u32], answers: &mut [i32]) 
     let mut i: usize = 0;
     while i < n {
         let at = 5 * i;
-        answers[i] = happen(s, script[at], script[at + 1], script[at + 2], script[at + 3], script[at + 4]);
+        answers[i] = happen(
+            s,
+            script[at],
+            script[at + 1],
+            script[at + 2],
+            script[at + 3],
+            script[at + 4],
+        );
         i += 1;
     }
     0

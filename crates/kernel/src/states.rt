@@ -1,11 +1,11 @@
 // Making, ticking and checking a state.
 ghost use mathlib.Core.Path.{_≡_};
 ghost use Rattle.rules.specs.Buffer.{sound, bootOutcome, tickOutcome};
-
 use audit::well_formed;
 use boot::store_boot;
 use reading::clock::clock;
-use words::refusals::{Refusal, refusal_number};
+use words::refusals::Refusal;
+use words::refusals::refusal_number;
 use writing::clock::store_clock;
 
 // "Boot refuses only a wrong length": −19, and the bytes stay; else 0 and the boot state, whatever was there.

@@ -15,13 +15,22 @@ pub fn gather(line: &mut [u8; 1024], length: usize, byte: u8) -> Gathered
     ensures { λ r. ⌜ now (line .exit) ≡ stored (now (line .entry)) length byte ⌝ }
 {
     if byte == b'\n' {
-        return Gathered { length, ended: true };
+        return Gathered {
+            length,
+            ended: true,
+        };
     }
     if length < 1024 {
         line[length] = byte;
-        return Gathered { length: length + 1, ended: false };
+        return Gathered {
+            length: length + 1,
+            ended: false,
+        };
     }
-    Gathered { length: 1025, ended: false }
+    Gathered {
+        length: 1025,
+        ended: false,
+    }
 }
 
 // The first n bytes; all of them where there are not so many.

@@ -5,7 +5,7 @@ use lib.Dec.{eqb}
 use lib.IntN.{negsuc, pos, ℤ}
 use Rattle.words.proofs.Judged.{not-no, ok-eq}
 use Rattle.words.specs.Refusals.{number}
-use Rattle.words.specs.Try.{_>>_, _>>=_, Try, need, no!, ok!}
+use Rattle.words.specs.Try.{_>>_, _>>=_, Try, need, no!, ok! }
 use Rattle.passed.specs.Names.{Refusal}
 
 -- −19, which is said of bytes and by no judgement on a state

@@ -6,13 +6,12 @@ use Prim.Native.Nat.{_+_, _<_, ℕ, _≤_}
 use native.Mathlib.Omega.{arith}
 use borrow.Author.Tests.{eqb-true, leb-true}
 use Rattle.rules.proofs.Facts.{right-open, wf-open}
-use Rattle.rules.proofs.Inside.{laid-out, stands-inside}
+use Rattle.rules.proofs.Inside.{entries-in, laid-out}
 use Rattle.rules.specs.Addresses.{slotOf}
 use Rattle.rules.specs.Formed.{Formed, RightFormed}
 use Rattle.rules.specs.Numbers.{memoryArg}
 use Rattle.rules.specs.Places.{spot}
 use Rattle.rules.specs.WellFormed.{endsOk, names, objectNo, right, rightOk, still, wf}
-use Rattle.state.proofs.Write.{is-table}
 use Rattle.state.specs.State.{State, objAt}
 use Rattle.words.proofs.Tests.{and-left, and-right}
 use Rattle.words.specs.Answers.{toldStretch}
@@ -36,7 +35,7 @@ module _ (st : State) (w : Formed (still st)) where
   -- a right in a place is well formed
   pub held-right : {p : Spot} {c : Capability} → Stands st p c → RightFormed (still st) c
   held-right {p} {c} h =
-      let below : p .table .0 < slotCount = stands-inside (still st) (laid-out w) (p .table) 0 (ap objectNo (is-table (objAt st (p .table)) (p .entry) (h .below))) in
+      let below : p .table .0 < slotCount = entries-in (still st) (laid-out w) (p .table) (p .entry) (h .below) in
       right-open (still st) c (sym (ap (right (rightOk (still st))) (h .holds)) ∙ w .rights (p .table .0) below (p .entry) (h .below))
 
   standing : (k : Kind) → names (still st) k ≡ true → endsOk (still st) k ≡ true → Standing st k

@@ -18,7 +18,7 @@ use Rattle.words.specs.Fields.{D0, D1, callNumber, slot}
 use Rattle.words.specs.Refusals.{number}
 use Rattle.words.specs.Rights.{inside, someRange, subset}
 use Rattle.words.specs.Tests.{choose}
-use Rattle.words.specs.Try.{Try, ok!}
+use Rattle.words.specs.Try.{Try, ok! }
 use Rattle.passed.specs.Found.{By, Plot, spanned, stretched}
 use Rattle.passed.specs.Names.{Action, Capability, Child, Empty, Endpoint, Kind, Page, PgtMap, Position, Process, Refusal, Slot, Span, Spot, Table, Thawed, Under, Words}
 use Rattle.passed.specs.Passed.{Becomes, Creation, Deletion, Doomed, Mapped, Passed, PassedCall, PositionSet, Removal, a-directory, a-process, a-table, an-endpoint}
@@ -130,19 +130,19 @@ module _ (st : State) (t : Slot) where
   map-page w =
       bind (by-directory st t _ _) λ d hd. bind (by-directory st t _ _) λ s hs. test _ refl λ h. test _ refl λ h₁. test _ refl λ h₂. test _ refl λ h₃. test _ refl λ h₄.
       bind (a-page _ refl _) λ f hf. test _ refl λ h₅. test _ refl λ h₆. let
-        source : Mapped st t (d .object) (f .frame + D0 (w .p3) * 2 ^ sizeAt st d) (D1 (w .p3)) = record {
-          span = s;
-          by = hs;
-          position = D0 (w .p2);
-          below = ltb-true _ _ (and-right _ _ h₁);
-          page = f;
-          holds = hf;
-          finer = leb-true _ _ h;
-          index = D0 (w .p3);
-          indexed = ltb-true _ _ h₂;
-          is = refl;
-          fewer = h₆;
-        } in
+      source : Mapped st t (d .object) (f .frame + D0 (w .p3) * 2 ^ sizeAt st d) (D1 (w .p3)) = record {
+        span = s;
+        by = hs;
+        position = D0 (w .p2);
+        below = ltb-true _ _ (and-right _ _ h₁);
+        page = f;
+        holds = hf;
+        finer = leb-true _ _ h;
+        index = D0 (w .p3);
+        indexed = ltb-true _ _ h₂;
+        is = refl;
+        fewer = h₆;
+      } in
       given (position-set d (D0 (w .p1)) (Page (f .frame + D0 (w .p3) * 2 ^ sizeAt st d) (D1 (w .p3))) hd (ltb-true _ _ (and-left _ _ h₁)) source)
 
   remove-page : (w : Words) → Given (removePage st t w) (Passed st t w)
@@ -237,11 +237,55 @@ module _ (st : State) (t : Slot) where
   each-at P (c ∷ cs) (suc n) d h e = each-at P cs n d h (e .1)
 
   pub call-passed : (n : ℕ) (w : Words) → Given (callOf n st t w) (Passed st t w)
-  call-passed n w = each-at (Shows w) callTable n noCall (refused refl)
-      (refused refl, (create-table w, (delete-table w, (delegate-passed w, (freeze-passed w, (remove-passed w,
-      (create-directory w, (delete-directory w, (map-page w, (remove-page w, (construct-passed w,
-      (destruct-passed w, (create-process w, (delete-process w, (change-table w, (change-directory w,
-      (create-endpoint w, (delete-endpoint w, (send-passed w, (receive-passed w, (function-passed w, tt)))))))))))))))))))))
+  call-passed n w = each-at (Shows w) callTable n noCall (refused refl) (
+    refused refl,
+    (
+      create-table w,
+      (
+        delete-table w,
+        (
+          delegate-passed w,
+          (
+            freeze-passed w,
+            (
+              remove-passed w,
+              (
+                create-directory w,
+                (
+                  delete-directory w,
+                  (
+                    map-page w,
+                    (
+                      remove-page w,
+                      (
+                        construct-passed w,
+                        (
+                          destruct-passed w,
+                          (
+                            create-process w,
+                            (
+                              delete-process w,
+                              (
+                                change-table w,
+                                (
+                                  change-directory w,
+                                  (create-endpoint w, (delete-endpoint w, (send-passed w, (receive-passed w, (function-passed w, tt))))),
+                                ),
+                              ),
+                            ),
+                          ),
+                        ),
+                      ),
+                    ),
+                  ),
+                ),
+              ),
+            ),
+          ),
+        ),
+      ),
+    ),
+  )
 
 caller-is : (o : Object) → Given (callerTable o) (λ t. (d : Slot) × (o ≡ process t d))
 unfolding callerTable

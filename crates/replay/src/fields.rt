@@ -1,5 +1,6 @@
 // The numbers of a recorded line, one after another.
-use lines::numbers::{Number, number_in};
+use lines::numbers::Number;
+use lines::numbers::number_in;
 use lines::spans::word_after;
 
 // A number with its sign, and where the next one is looked for; 0 where none could be read, which no recorded line has.
@@ -34,9 +35,17 @@ fn rest(text: &[u8]) -> &[u8] {
 
 fn field_of(text: &[u8], next: usize) -> Field {
     if is_negative(text) {
-        return Field { negative: true, value: value_of(rest(text)), next };
+        return Field {
+            negative: true,
+            value: value_of(rest(text)),
+            next,
+        };
     }
-    Field { negative: false, value: value_of(text), next }
+    Field {
+        negative: false,
+        value: value_of(text),
+        next,
+    }
 }
 
 // The field that stands at or after a byte of a line.

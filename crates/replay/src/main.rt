@@ -10,9 +10,12 @@ mod tally;
 use crate::pairs::say_pairs;
 use crate::records::record_in;
 use crate::steps::again;
-use crate::tally::{count, say_counts};
-use libc::{STDIN_FILENO, STDOUT_FILENO};
-use lines::gather::{first, gather};
+use crate::tally::count;
+use crate::tally::say_counts;
+use libc::STDIN_FILENO;
+use libc::STDOUT_FILENO;
+use lines::gather::first;
+use lines::gather::gather;
 
 fn say(text: &[u8]) {
     io::write_all(STDOUT_FILENO, text);
@@ -35,7 +38,13 @@ fn say_difference(number: u64, line: &[u8]) {
 }
 
 // The line that ends here; answers whether it comes out otherwise.
-fn end_line(s: &mut [u8; 17472], met: &mut [u8; 441], counts: &mut [u64; 8], line: &[u8], number: u64) -> bool {
+fn end_line(
+    s: &mut [u8; 17472],
+    met: &mut [u8; 441],
+    counts: &mut [u64; 8],
+    line: &[u8],
+    number: u64,
+) -> bool {
     let r = record_in(line);
     count(counts, r);
     if again(s, met, r) {
@@ -45,17 +54,39 @@ fn end_line(s: &mut [u8; 17472], met: &mut [u8; 441], counts: &mut [u64; 8], lin
     true
 }
 
-fn take_byte(s: &mut [u8; 17472], met: &mut [u8; 441], counts: &mut [u64; 8], line: &mut [u8; 1024], p: Progress, byte: u8) -> Progress {
+fn take_byte(
+    s: &mut [u8; 17472],
+    met: &mut [u8; 441],
+    counts: &mut [u64; 8],
+    line: &mut [u8; 1024],
+    p: Progress,
+    byte: u8,
+) -> Progress {
     let g = gather(line, p.length, byte);
     if !g.ended {
-        return Progress { length: g.length, lines: p.lines, differs: p.differs };
+        return Progress {
+            length: g.length,
+            lines: p.lines,
+            differs: p.differs,
+        };
     }
     let number = std::num::wrapping_add_u64(p.lines, 1);
     let differs = end_line(s, met, counts, first(line, g.length), number);
-    Progress { length: 0, lines: number, differs }
+    Progress {
+        length: 0,
+        lines: number,
+        differs,
+    }
 }
 
-fn take_bytes(s: &mut [u8; 17472], met: &mut [u8; 441], counts: &mut [u64; 8], line: &mut [u8; 1024], p: Progress, bytes: &[u8]) -> Progress {
+fn take_bytes(
+    s: &mut [u8; 17472],
+    met: &mut [u8; 441],
+    counts: &mut [u64; 8],
+    line: &mut [u8; 1024],
+    p: Progress,
+    bytes: &[u8],
+) -> Progress {
     let mut now = p;
     for i in 0..bytes.len() {
         now = take_byte(s, met, counts, line, now, bytes[i]);
@@ -72,21 +103,42 @@ struct Turn {
     goes_on: bool,
 }
 
-fn read_once(s: &mut [u8; 17472], met: &mut [u8; 441], counts: &mut [u64; 8], line: &mut [u8; 1024], p: Progress) -> Turn {
+fn read_once(
+    s: &mut [u8; 17472],
+    met: &mut [u8; 441],
+    counts: &mut [u64; 8],
+    line: &mut [u8; 1024],
+    p: Progress,
+) -> Turn {
     let mut chunk = [0u8; 4096];
     let got = libc::read(STDIN_FILENO, &mut chunk);
     let n = io::count(got, &chunk);
     if n == 0 {
-        return Turn { progress: p, goes_on: false };
+        return Turn {
+            progress: p,
+            goes_on: false,
+        };
     }
     let now = take_bytes(s, met, counts, line, p, &chunk[..n]);
-    Turn { progress: now, goes_on: !now.differs }
+    Turn {
+        progress: now,
+        goes_on: !now.differs,
+    }
 }
 
 // Whether every step comes out as recorded. The reads are counted down from a number that no run uses up, since a proved loop has
 // to end.
-fn replay(s: &mut [u8; 17472], met: &mut [u8; 441], counts: &mut [u64; 8], line: &mut [u8; 1024]) -> bool {
-    let mut p = Progress { length: 0, lines: 0, differs: false };
+fn replay(
+    s: &mut [u8; 17472],
+    met: &mut [u8; 441],
+    counts: &mut [u64; 8],
+    line: &mut [u8; 1024],
+) -> bool {
+    let mut p = Progress {
+        length: 0,
+        lines: 0,
+        differs: false,
+    };
     let mut reads: u64 = 0xFFFFFFFFFFFFFFFF;
     while 0 < reads {
         let t = read_once(s, met, counts, line, p);

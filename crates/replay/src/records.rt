@@ -1,5 +1,6 @@
 // What a recorded line says was done, and what came of it.
-use crate::fields::{Field, field_at};
+use crate::fields::Field;
+use crate::fields::field_at;
 
 pub struct Call {
     pub caller: u32,
@@ -22,7 +23,10 @@ pub enum Record {
 fn set_in(line: &[u8]) -> Record {
     let at = field_at(line, 1);
     let word = field_at(line, at.next);
-    Record::Set { at: at.value, word: word.value }
+    Record::Set {
+        at: at.value,
+        word: word.value,
+    }
 }
 
 fn call_in(line: &[u8]) -> Record {
@@ -32,14 +36,23 @@ fn call_in(line: &[u8]) -> Record {
     let w2 = field_at(line, w1.next);
     let w3 = field_at(line, w2.next);
     let answer = field_at(line, w3.next);
-    let call = Call { caller: caller.value, w0: w0.value, w1: w1.value, w2: w2.value, w3: w3.value };
+    let call = Call {
+        caller: caller.value,
+        w0: w0.value,
+        w1: w1.value,
+        w2: w2.value,
+        w3: w3.value,
+    };
     Record::Made { call, answer }
 }
 
 fn hash_in(line: &[u8]) -> Record {
     let high = field_at(line, 1);
     let low = field_at(line, high.next);
-    Record::Hash { high: high.value, low: low.value }
+    Record::Hash {
+        high: high.value,
+        low: low.value,
+    }
 }
 
 // By the line's first byte.

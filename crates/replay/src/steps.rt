@@ -1,9 +1,12 @@
 // A recorded step made again: whether it comes out as recorded.
 use crate::fields::Field;
-use crate::pairs::{column, note};
-use crate::records::{Call, Record};
+use crate::pairs::column;
+use crate::pairs::note;
+use crate::records::Call;
+use crate::records::Record;
 use kernel::calls::kernel_call;
-use kernel::states::{kernel_boot, kernel_tick};
+use kernel::states::kernel_boot;
+use kernel::states::kernel_tick;
 use lines::counts::count_of;
 
 fn is(answer: i32, f: Field) -> bool {

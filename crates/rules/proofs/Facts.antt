@@ -1,14 +1,14 @@
 -- Well formed, from the test to the facts and back.
 use mathlib.Core.Bool.{true}
 use mathlib.Core.Path.{_≡_}
+use Prim.Native.Nat.{_≤_}
 use borrow.Author.Tests.{eq-eqb, eqb-true, le-leb, leb-true, lt-ltb, ltb-true}
 use Rattle.state.specs.Layout.{Laid}
 use Rattle.state.specs.State.{State}
 use Rattle.words.proofs.Tests.{all-at, all-of, and-both, and-left, and-right}
-use Rattle.rules.specs.Calls.{function}
 use Rattle.rules.specs.Formed.{Formed, RightFormed, Wf}
-use Rattle.rules.specs.Names.{Capability}
-use Rattle.rules.specs.WellFormed.{apart, everyObject, everyPlace, formed, rightOk, rooted, still, wf}
+use Rattle.rules.specs.Names.{Capability, Geometry}
+use Rattle.rules.specs.WellFormed.{apart, everyObject, everyPlace, formed, geometric, rightOk, rooted, still, wf}
 
 pub right-open : (st : State) (c : Capability) → rightOk st c ≡ true → RightFormed st c
 unfolding rightOk
@@ -27,6 +27,11 @@ right-open st c h =
 pub right-close : (st : State) (c : Capability) → RightFormed st c → rightOk st c ≡ true
 unfolding rightOk
 right-close st c r = and-both _ _ (r .stands) (and-both _ _ (r .ends) (and-both _ _ (le-leb _ _ (r .flags)) (and-both _ _ (r .stamp) (r .descent))))
+
+-- "number order 1..8"
+pub number-few : (g : Geometry) → geometric g ≡ true → g .number ≤ 8
+unfolding geometric
+number-few g h = leb-true _ _ (and-left _ _ (and-right _ _ (and-right _ _ (and-right _ _ h))))
 
 pub formed-open : (st : State) → formed st ≡ true → Formed st
 unfolding formed apart rooted everyPlace everyObject

@@ -9,6 +9,7 @@ use native.Mathlib.Numerals.{add-two}
 use native.Mathlib.Omega.{arith}
 use lib.ListN.{getD, length, length-replicate, length-set, replicate, set}
 use lib.Seq.{getD-set-other}
+use Rattle.state.proofs.Zeros.{copies}
 use Rattle.rules.proofs.Chain.{Leads, Reaches, child, here, no-cycle, root, snoc, used-of}
 
 -- ---- how many marks are not yet made
@@ -28,11 +29,6 @@ zeros-fall (suc n ∷ l) (suc x) (suc v) h z p = zeros-fall l x (suc v) (le-of-s
 zeros-blank : (n : ℕ) → zeros (replicate n 0) ≡ n
 zeros-blank zero = refl
 zeros-blank (suc n) = ap suc (zeros-blank n)
-
-pub getD-blank : (n y : ℕ) → _≡_ {A = ℕ} (getD (replicate n 0) y 0) 0
-getD-blank zero y = refl
-getD-blank (suc n) zero = refl
-getD-blank (suc n) (suc y) = getD-blank n y
 
 -- ---- the test with n steps
 abbrev pub onward : ℕ → (ℕ → Bool) → Bool
@@ -92,4 +88,4 @@ module _ (f : ℕ → ℕ) where
     pub enough : (y : ℕ) → Reaches f y → within f N y ≡ true
     enough y r =
         subst (λ (k : ℕ). within f k y ≡ true) (zeros-blank N)
-        (enough-from y r (replicate N 0) (length-replicate {A = ℕ} N 0) (λ z u. absurd (u (getD-blank N z))))
+        (enough-from y r (replicate N 0) (length-replicate {A = ℕ} N 0) (λ z u. absurd (u (copies N z 0))))

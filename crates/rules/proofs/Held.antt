@@ -20,20 +20,20 @@ use Rattle.words.specs.Sizes.{stateLength}
 use Rattle.rules.specs.Formed.{Formed}
 use Rattle.rules.specs.Names.{Blank, Capability, Child, Directory, Empty, Endpoint, Frost, Frozen, Function, Geometry, Holds, Kind, Memory, Origin, Page, Place, Position, Process, Root, Slot, Table, Thawed, Under}
 use Rattle.rules.specs.WellFormed.{descends, endsOk, geometric, hangs, names, objectOk, parentFits, positionOk, reaches, right, rightOk, runs, stampOk, still, wf}
-use Rattle.rules.proofs.Facts.{right-open, wf-laid, wf-open}
-use Rattle.rules.proofs.Inside.{blank-past, free-past, laid-out, stands-inside, top-stands}
+use Rattle.rules.proofs.Facts.{number-few, right-open, wf-laid, wf-open}
+use Rattle.rules.proofs.Inside.{blank-past, free-past, laid-out, stands-inside}
+use Rattle.rules.proofs.Named.{top-stands}
 
 module _ (st : State) (w : Formed st) where
   -- a directory has at most 256 positions
   few : (o : Object) (s : Slot) → objectOk st s o ≡ true → length (positionsOf o) ≤ 256
-  unfolding objectOk geometric
+  unfolding objectOk
   few free s h = omega arith
   few (body f) s h = omega arith
   few (table ps) s h = omega arith
   few (directory g es) s h =
       let n : length es ≡ 2 ^ (g .number) = eqb-true _ _ (and-left _ _ (and-right _ _ (and-right _ _ h))) in
-      let k : g .number ≤ 8 = leb-true _ _ (and-left _ _ (and-right _ _ (and-right _ _ (and-right _ _ (and-left _ _ h))))) in
-      le-trans (le-of-eq n) (pow-mono k)
+      le-trans (le-of-eq n) (pow-mono (number-few g (and-left _ _ h)))
   few (process t d) s h = omega arith
   few (endpoint c b) s h = omega arith
 
@@ -128,7 +128,7 @@ module _ (st : State) (w : Formed st) where
       record {
         size = omega arith;
         start = ltb-true _ _ (and-left _ _ (and-right _ _ h));
-        number = leb-true _ _ (and-left _ _ (and-right _ _ (and-right _ _ (and-right _ _ shape))));
+        number = number-few g shape;
         count = eqb-true _ _ (and-left _ _ (and-right _ _ (and-right _ _ h)));
         each-fits = λ k l. position-fits g (getD es k Empty) (all-at (length es) (λ i. positionOk st g (getD es i Empty)) (and-right _ _ (and-right _ _ (and-right _ _ h))) k l);
       }

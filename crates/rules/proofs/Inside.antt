@@ -1,12 +1,11 @@
 -- What stands lies within the 256 slots, and holds places within the 512: past them a laid-out state has nothing.
-use mathlib.Core.Bool.{false≢true, true}
 use mathlib.Core.Path.{ap, refl, _≡_}
 use Prim.Native.Nat.{_/_, _<_, suc, ℕ, _≤_}
-use native.Mathlib.Decide.{decLt}
 use native.Mathlib.Omega.{arith}
 use lib.ListN.{List·getD-eq-default}
+use Rattle.state.proofs.Write.{is-table, slot-in}
 use Rattle.state.specs.Layout.{Laid}
-use Rattle.state.specs.State.{Object, State, body, directory, endpoint, free, objAt, placeNumbered, process, shapeOf, table}
+use Rattle.state.specs.State.{State, entriesIn, free, objAt, placeNumbered}
 use Rattle.words.specs.Fields.{slot}
 use Rattle.words.specs.Sizes.{placeCount, slotCount}
 use Rattle.rules.specs.Formed.{Formed}
@@ -25,16 +24,7 @@ module _ (st : State) (w : Laid st) where
 
   -- so what is named by a number other than 0 stands in one of the slots
   pub stands-inside : (o : Slot) (n : ℕ) → objectNo (objAt st o) ≡ suc n → o .0 < slotCount
-  stands-inside o n h = elim (decLt (o .0) slotCount) [
-    | yes l ↦ l
-    | no l ↦ absurd (let z : objectNo (objAt st o) ≡ 0 = ap objectNo (free-past (o .0) (omega arith)) in omega arith)
-  ]
+  stands-inside o n h = omega (arith, w .room, slot-in st o (λ e. let z : objectNo (objAt st o) ≡ 0 = ap objectNo e in omega arith))
 
--- only a directory is top
-pub top-stands : (o : Object) → shapeOf o .top ≡ true → objectNo o ≡ 2
-top-stands free h = absurd (false≢true h)
-top-stands (body f) h = absurd (false≢true h)
-top-stands (table ps) h = absurd (false≢true h)
-top-stands (directory g es) h = refl
-top-stands (process t d) h = absurd (false≢true h)
-top-stands (endpoint c b) h = absurd (false≢true h)
+  pub entries-in : (t : Slot) (e : ℕ) → e < entriesIn st t → t .0 < slotCount
+  entries-in t e h = stands-inside t 0 (ap objectNo (is-table (objAt st t) e h))

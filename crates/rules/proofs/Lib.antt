@@ -1,6 +1,7 @@
 pub mod Worked
 pub mod Facts
 pub mod Clock
+pub mod Named
 pub mod Inside
 pub mod Held
 pub mod Lift

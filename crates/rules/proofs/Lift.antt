@@ -12,7 +12,7 @@ use Rattle.state.specs.Read.{read}
 use Rattle.state.specs.State.{State}
 use Rattle.words.proofs.Tests.{and-both, and-left, and-right}
 use Rattle.words.specs.Sizes.{stateLength}
-use Rattle.words.specs.Try.{Try, no!, ok!}
+use Rattle.words.specs.Try.{Try, no!, ok! }
 use Rattle.rules.specs.Boot.{boot}
 use Rattle.rules.specs.Buffer.{Outcome, callOutcome, outcome, same, sound, tickOutcome}
 use Rattle.rules.specs.Calls.{plan}

@@ -5,7 +5,7 @@ use Rattle.state.specs.State.{State, isFree, objAt}
 use Rattle.words.specs.Fields.{slot}
 use Rattle.words.specs.Sizes.{kernelStart, slotSize}
 use Rattle.words.specs.Tests.{_&_, allBelow}
-use Rattle.words.specs.Try.{_>>_, _>>=_, Try, need, ok!}
+use Rattle.words.specs.Try.{_>>_, _>>=_, Try, need, ok! }
 use Rattle.rules.specs.Names.{CapFlag, CapKotbl, KernelAddress, Slot, Stretch}
 
 -- ---- "A creation's address: CAP_FLAG if misaligned or not wholly in the memory right, then KOTBL": the first of n slots

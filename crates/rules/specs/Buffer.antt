@@ -10,7 +10,7 @@ use Rattle.state.specs.Read.{read}
 use Rattle.words.specs.Refusals.{number}
 use Rattle.words.specs.Sizes.{stateLength}
 use Rattle.words.specs.Tests.{_&_, choose}
-use Rattle.words.specs.Try.{Try, no!, ok!}
+use Rattle.words.specs.Try.{Try, no!, ok! }
 use Rattle.rules.specs.Boot.{boot}
 use Rattle.rules.specs.Calls.{plan}
 use Rattle.rules.specs.Commit.{after, answer, ticked}

@@ -11,7 +11,7 @@ use Rattle.words.specs.Refusals.{number}
 use Rattle.words.specs.Rights.{d-ADD-DST, d-ADD-SRC, d-CON-CHILD, d-CON-PARENT, d-DES, d-PROC-CRT, d-PROC-PGT, d-REM, e-SND, has, inside, isBlank, m-CAPTBL, m-PGTBL, m-PROC, m-SIG, p-CPT, p-PGT, someFlag, someRange, subset, t-ADD-DST, t-ADD-SRC, t-CRT, t-DEL, t-FRZ, t-PROC-CPT, t-PROC-CRT, t-REM}
 use Rattle.words.specs.Sizes.{entrySize, headerSize, mostEntries, positionSize, slotCount, slotsFor}
 use Rattle.words.specs.Tests.{_&_, allBelow, anyBelow, choose, _or_}
-use Rattle.words.specs.Try.{_>>_, _>>=_, Try, need, no!, ok!}
+use Rattle.words.specs.Try.{_>>_, _>>=_, Try, need, no!, ok! }
 use Rattle.rules.specs.Addresses.{addressArg}
 use Rattle.rules.specs.Names.{Action, Answer, BadCall, BadCaller, CapExist, CapFlag, CapNull, CapRange, Capability, ChangeDirectory, ChangeTable, Child, CreateDirectory, CreateEndpoint, CreateProcess, CreateTable, Delete, Directory, Empty, Endpoint, Fill, Frame, Freeze, Function, Geometry, Grant, Kind, Memory, Page, PgtAddr, PgtHw, PgtMap, PgtPerm, Position, Process, Refusal, Remove, SetCount, SetPosition, SivAct, SivConflict, SivFull, Slot, Span, Table, Thawed, Under, Words}
 use Rattle.rules.specs.Numbers.{asDirectory, asEndpoint, asFunction, asProcess, asTable, directoryArg, endpointArg, lookup, memoryArg, processArg, tableArg, topArg}

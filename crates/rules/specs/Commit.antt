@@ -7,7 +7,7 @@ use Rattle.state.specs.State.{Object, State, bootMark, directory, directoryName
 use Rattle.words.specs.Fields.{count}
 use Rattle.words.specs.Refusals.{number}
 use Rattle.words.specs.Rights.{rootRight}
-use Rattle.words.specs.Try.{Try, no!, ok!}
+use Rattle.words.specs.Try.{Try, no!, ok! }
 use Rattle.rules.specs.Names.{Action, Answer, Blank, ChangeDirectory, ChangeTable, CreateDirectory, CreateEndpoint, CreateProcess, CreateTable, Delete, Directory, Empty, Endpoint, Fill, Freeze, Frozen, Holds, Kind, Place, Process, Remove, SetCount, SetPosition, Slot, Spot, Table}
 
 -- the right in a place, frozen with the clock as its stamp

@@ -6,7 +6,7 @@ use Rattle.state.specs.State.{State, entriesIn, placeAt, shapeAt}
 use Rattle.words.specs.Fields.{capabilityNumber}
 use Rattle.words.specs.Rights.{has, placeThawed}
 use Rattle.words.specs.Tests.{_&_}
-use Rattle.words.specs.Try.{_>>_, _>>=_, Try, need, no!, ok!}
+use Rattle.words.specs.Try.{_>>_, _>>=_, Try, need, no!, ok! }
 use Rattle.rules.specs.Names.{Blank, CapFlag, CapFrozen, CapRange, CapType, Capability, CapabilityNumber, Directory, Endpoint, Function, FunctionRange, Holds, Kind, Memory, PgtHw, Place, Process, Refusal, Slot, Span, Stretch, Table}
 
 -- what a place holds, or the refusal r where it is blank

@@ -7,7 +7,7 @@ use Rattle.words.specs.Fields.{slot}
 use Rattle.words.specs.Rights.{isBlank, isRoot, isThawed, isUnder, placeThawed, stampOf}
 use Rattle.words.specs.Sizes.{quietTicks, slotCount}
 use Rattle.words.specs.Tests.{anyBelow, _or_}
-use Rattle.words.specs.Try.{_>>_, _>>=_, Try, need, ok!}
+use Rattle.words.specs.Try.{_>>_, _>>=_, Try, need, ok! }
 use Rattle.rules.specs.Names.{Blank, CapExist, CapFrozen, CapNull, CapQuie, CapRange, CapRefcnt, Capability, Frost, Holds, Kind, Place, Slot, Spot}
 use Rattle.rules.specs.Numbers.{filled}
 

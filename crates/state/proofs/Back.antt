@@ -212,8 +212,8 @@ module _ (st : State) (w : Laid st) where
   unfolding slotFrom
   slot-kept i h f =
       ap₂ (λ (t a : ℕ). objectFrom t a (drop (64 * i) (bytes st)))
-        (ap (λ (k : ℕ). getD (bytes st) k 0) (omega arith) ∙ note-at i 0 h (omega arith))
-        (ap (λ (k : ℕ). getD (bytes st) k 0) (omega arith) ∙ note-at i 1 h (omega arith))
+      (ap (λ (k : ℕ). getD (bytes st) k 0) (omega arith) ∙ note-at i 0 h (omega arith))
+      (ap (λ (k : ℕ). getD (bytes st) k 0) (omega arith) ∙ note-at i 1 h (omega arith))
       ∙ go (getD (st .slots) i free) refl f
     where
       solid : (o : Object) → getD (st .slots) i free ≡ o → (tagOf o ≡ 1 → ⊥) → ObjectFits o → objectFrom (tagOf o) (argumentOf o) (drop (64 * i) (bytes st)) ≡ o

@@ -6,17 +6,17 @@ use Prim.Native.Nat.{ℕ, zero, suc, _+_, _*_, _-_, _<_, _≤_}
 use native.Mathlib.Nat.{add-zero}
 use native.Mathlib.Omega.{arith}
 use lib.Dec.{ltb}
-use lib.ListN.{length, set, length-set, getD, take, drop, replicate, length-replicate, List·getD-append}
+use lib.ListN.{length, set, length-set, getD, getD-replicate, take, drop, replicate, length-replicate, List·getD-append}
 use lib.Seq.{getD-append-add, getD-take, getD-drop, length-take-le}
 use borrow.Author.Tests.{ltb-true, ltb-false}
 use Rattle.words.specs.Sizes.{slotsFor}
 use Rattle.words.specs.Fields.{slot}
 use Rattle.state.specs.Names.{Slot, Spot, Place}
-use Rattle.state.specs.State.{Object, free, table, State, sizeOf, placesOf, objAt, entriesIn, splice, putPlace, risen, raise, raze}
-use Rattle.state.specs.Layout.{Laid}
+use Rattle.state.specs.State.{Object, body, free, table, State, sizeOf, placesOf, objAt, entriesIn, splice, putPlace, risen, raise, raze}
 use Rattle.state.specs.Bytes.{tagOf}
+use Rattle.state.proofs.Pieces.{length-splice}
 use Rattle.state.proofs.Write.{is-table}
-use Rattle.state.proofs.Run.{risen-length, object-fits, object-part}
+use Rattle.state.proofs.Run.{risen-length}
 
 -- ---- one object replaced: a view f that the new one shares with the old one is kept in every slot
 put-keeps : {A B : Type 0} (f : A → B) (l : List A) (i j : ℕ) (a d : A) → f a ≡ f (getD l i d) → f (getD (set l i a) j d) ≡ f (getD l j d)
@@ -74,29 +74,39 @@ module _ {A : Type 0} (d : A) (v l : List A) (n : ℕ) (fits : n + length v ≤ 
       low true e = splice-below i (ltb-true i n e)
       low false e = high (ltb i (n + length v)) refl (ltb-false i n e)
 
-module _ (st : State) (w : Laid st) (s : Slot) where
-  -- ---- a new object where all its slots are free
-  module _ (o : Object) (some : 1 ≤ sizeOf o) (room : s .0 + sizeOf o ≤ 256) (none : (i : ℕ) → i < sizeOf o → objAt st (slot (s .0 + i)) ≡ free) where
-    raise-fits : s .0 + length (risen s o) ≤ length (st .slots)
-    raise-fits = omega (arith, w .room, risen-length s o some)
+-- ---- a new object: in its first slot, in its others, and elsewhere
+module _ (st : State) (s : Slot) (o : Object) (some : 1 ≤ sizeOf o) (fits : s .0 + sizeOf o ≤ length (st .slots)) where
+  risen-fits : s .0 + length (risen s o) ≤ length (st .slots)
+  risen-fits = omega (arith, risen-length s o some)
 
-    pub raise-first : objAt (raise st s o) s ≡ o
-    raise-first =
-        ap (λ (i : ℕ). getD (splice (s .0) (risen s o) (st .slots)) i free) (sym (add-zero (s .0))) ∙ splice-in free (risen s o) (st .slots) (s .0) raise-fits 0 (omega arith)
+  pub raise-first : objAt (raise st s o) s ≡ o
+  raise-first =
+      ap (λ (i : ℕ). getD (splice (s .0) (risen s o) (st .slots)) i free) (sym (add-zero (s .0))) ∙ splice-in free (risen s o) (st .slots) (s .0) risen-fits 0 (omega arith)
 
-    pub raise-stays : (t : Slot) → (tagOf (objAt st t) ≡ 0 → ⊥) → objAt (raise st s o) t ≡ objAt st t
-    raise-stays t h =
-        splice-stays free (risen s o) (st .slots) (s .0) raise-fits (t .0)
-        (λ j below e. h (ap (λ (i : ℕ). tagOf (getD (st .slots) i free)) e ∙ ap tagOf (none j (omega (arith, risen-length s o some)))))
+  pub raise-part : (j : ℕ) → suc j < sizeOf o → objAt (raise st s o) (slot (s .0 + suc j)) ≡ body s
+  raise-part j l =
+      splice-in free (risen s o) (st .slots) (s .0) risen-fits (suc j) (omega (arith, risen-length s o some)) ∙ getD-replicate (sizeOf o - 1) j (body s) free (omega arith)
 
-  -- ---- the object at s deleted
-  module _ (tag : 2 ≤ tagOf (objAt st s)) where
-    pub raze-stays : (t : Slot) → (t .0 ≡ s .0 → ⊥) → (tagOf (objAt st t) ≡ 1 → ⊥) → objAt (raze st s) t ≡ objAt st t
-    raze-stays t other whole =
-        let n : ℕ = sizeOf (objAt st s) in
-        splice-stays free (replicate n free) (st .slots) (s .0) (omega (arith, w .room, length-replicate n free, object-fits st w s tag)) (t .0)
-        (λ j below e. go j (omega (arith, length-replicate n free)) e)
-      where
-        go : (j : ℕ) → j < sizeOf (objAt st s) → t .0 ≡ s .0 + j → ⊥
-        go zero h e = other (e ∙ add-zero (s .0))
-        go (suc j) h e = whole (ap (λ (i : ℕ). tagOf (getD (st .slots) i free)) e ∙ ap tagOf (object-part st w s tag j h))
+  pub raise-apart : (k : ℕ) → ((j : ℕ) → j < sizeOf o → k ≡ s .0 + j → ⊥) → objAt (raise st s o) (slot k) ≡ objAt st (slot k)
+  raise-apart k d = splice-stays free (risen s o) (st .slots) (s .0) risen-fits k (λ j l e. d j (omega (arith, risen-length s o some)) e)
+
+  pub raise-length : length (raise st s o .slots) ≡ length (st .slots)
+  raise-length = length-splice (st .slots) (risen s o) (s .0) risen-fits
+
+  -- where its slots were free, each object stays
+  pub raise-stays : ((i : ℕ) → i < sizeOf o → objAt st (slot (s .0 + i)) ≡ free) → (t : Slot) → (tagOf (objAt st t) ≡ 0 → ⊥) → objAt (raise st s o) t ≡ objAt st t
+  raise-stays none t h = raise-apart (t .0) (λ j l e. h (ap (λ (i : ℕ). tagOf (getD (st .slots) i free)) e ∙ ap tagOf (none j l)))
+
+-- ---- the object at s deleted: in its slots, and elsewhere
+module _ (st : State) (s : Slot) (fits : s .0 + sizeOf (objAt st s) ≤ length (st .slots)) where
+  abbrev n : ℕ
+  n = sizeOf (objAt st s)
+
+  long : length (replicate n free) ≡ n
+  long = length-replicate n free
+
+  pub raze-free : (j : ℕ) → j < sizeOf (objAt st s) → objAt (raze st s) (slot (s .0 + j)) ≡ free
+  raze-free j l = splice-in free (replicate n free) (st .slots) (s .0) (omega (arith, long)) j (omega (arith, long)) ∙ getD-replicate n j free free l
+
+  pub raze-apart : (k : ℕ) → ((j : ℕ) → j < sizeOf (objAt st s) → k ≡ s .0 + j → ⊥) → objAt (raze st s) (slot k) ≡ objAt st (slot k)
+  raze-apart k d = splice-stays free (replicate n free) (st .slots) (s .0) (omega (arith, long)) k (λ j l e. d j (omega (arith, long)) e)

@@ -1,7 +1,9 @@
 pub mod Pieces
 pub mod Sizes
+pub mod Bodies
 pub mod Parts
 pub mod Look
+pub mod Few
 pub mod Back
 pub mod Zeros
 pub mod Write

@@ -81,7 +81,7 @@ module _ {A : Type 0} (f : A → List ℕ) where
       ap (λ (r : List ℕ). f x ++ r) (put-law d o v n xs k (le-of-suc-le-suc hk) hn e)
       ∙ sym (splice-right (f x) (each f xs) v (offset f xs k + n))
       ∙ ap (λ (i : ℕ). splice i v (f x ++ each f xs))
-        (sym (add-assoc (length (f x)) (offset f xs k) n) ∙ ap (λ (i : ℕ). i + n) (sym (length-append (f x) (each f (take k xs)))))
+      (sym (add-assoc (length (f x)) (offset f xs k) n) ∙ ap (λ (i : ℕ). i + n) (sym (length-append (f x) (each f (take k xs)))))
 
   -- whole pieces replaced by others that take as many bytes together
   pub run-law : (k : ℕ) (ys xs : List A) → length (each f ys) ≡ length (each f (take (length ys) (drop k xs)))
@@ -96,8 +96,8 @@ module _ {A : Type 0} (f : A → List ℕ) where
       let whole : each f xs ≡ front ++ (mid ++ rear) =
       ap (each f) (sym (take-append-drop k xs)) ∙ each-append (take k xs) (drop k xs)
       ∙ ap (λ (r : List ℕ). front ++ r)
-        (ap (each f) (sym (take-append-drop m (drop k xs))) ∙ each-append (take m (drop k xs)) (drop m (drop k xs))
-        ∙ ap (λ (r : List A). mid ++ each f r) (drop-drop m k xs)) in
+      (ap (each f) (sym (take-append-drop m (drop k xs))) ∙ each-append (take m (drop k xs)) (drop m (drop k xs))
+      ∙ ap (λ (r : List A). mid ++ each f r) (drop-drop m k xs)) in
       let cut : splice (length front) v (front ++ (mid ++ rear)) ≡ front ++ (v ++ rear) =
       simp (take-append-seam front (mid ++ rear), drop-append-add front (mid ++ rear) (length v), drop-at mid rear (length v) (sym e)) in
       each-append (take k xs) (ys ++ drop (k + m) xs)

@@ -23,7 +23,7 @@ module _ (st : State) (w : Laid st) (p : Spot) (x : Place) (h : p .entry < entri
     pub raised-entry : p .entry < entriesIn (raise st s o) (p .table)
     raised-entry =
         let tag : tagOf (objAt st (p .table)) ≡ 2 = ap tagOf (is-table (objAt st (p .table)) (p .entry) h) in
-        let same : objAt (raise st s o) (p .table) ≡ objAt st (p .table) = raise-stays st w s o some (room .fits) (room .none) (p .table) (λ z. omega arith) in
+        let same : objAt (raise st s o) (p .table) ≡ objAt st (p .table) = raise-stays st s o some (omega (arith, w .room, room .fits)) (room .none) (p .table) (λ z. omega arith) in
         rw same h
 
     pub bytes-create : bytes (putPlace (raise st s o) p x) ≡ splice (64 * p .table .0 + 32 * p .entry) (placeBytes x) (bytes (raise st s o))

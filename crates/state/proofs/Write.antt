@@ -1,15 +1,13 @@
 -- What replacing one object, or the clock, does to the bytes: the laws that a writer of the lent buffer cites. Each is one part replaced.
 use mathlib.Core.Path.{_≡_, refl, sym, _∙_, ap, ap₂}
-use mathlib.Core.Bool.{Bool, true, false}
 use mathlib.Core.List.{List, [], _∷_, _++_}
 use Prim.Native.Nat.{ℕ, _+_, _*_, _-_, _<_, _≤_}
+use native.Mathlib.Decide.{decLt}
 use native.Mathlib.Nat.{not-suc-le-zero}
 use native.Mathlib.Omega.{arith}
-use lib.Dec.{ltb}
 use lib.ListN.{length, getD, set, replicate, length-set, List·getD-eq-default}
-use borrow.Author.Tests.{ltb-true, ltb-false}
 use Rattle.words.specs.Sizes.{slotsFor}
-use Rattle.words.specs.Fields.{slot, count}
+use Rattle.words.specs.Fields.{count}
 use Rattle.state.specs.Names.{Slot, Count, Spot, Geometry, Place, Position}
 use Rattle.state.specs.State.{Object, free, body, table, directory, process, endpoint, State, sizeOf, placesOf, positionsOf, shapeOf, tableNamed, directoryNamed, countOf, bootMark, objAt, entriesIn, positionsIn, splice, put, putPlace, putPosition, withClock}
 use Rattle.state.specs.Layout.{Laid}
@@ -50,6 +48,13 @@ is-endpoint (directory g es) h = absurd (omega arith)
 is-endpoint (process t d) h = absurd (omega arith)
 is-endpoint (endpoint c b) h = refl
 
+-- what is not free is in memory
+pub slot-in : (st : State) (s : Slot) → (objAt st s ≡ free → ⊥) → s .0 < length (st .slots)
+slot-in st s d = elim (decLt (s .0) (length (st .slots))) [
+  | yes l ↦ l
+  | no l ↦ absurd (d (List·getD-eq-default (st .slots) free {n = s .0} (omega arith)))
+]
+
 -- ---- a part of an object's own bytes replaced is that part of its memory
 own-put : (o x : Object) (v : List ℕ) (n : ℕ) → n + length v ≤ length (ownBytes x) → sizeOf o ≡ sizeOf x → ownBytes o ≡ splice n v (ownBytes x)
     → memoryBytes o ≡ splice n v (memoryBytes x)
@@ -78,11 +83,7 @@ positions-put g es i x h =
 module _ (st : State) (w : Laid st) where
   -- an object stands in one of the 256 slots
   pub object-inside : (k : Slot) → (tagOf (objAt st k) ≡ 0 → ⊥) → k .0 < 256
-  object-inside k h = go (ltb (k .0) 256) refl
-    where
-      go : (b : Bool) → ltb (k .0) 256 ≡ b → k .0 < 256
-      go true e = ltb-true _ _ e
-      go false e = absurd (h (ap tagOf (List·getD-eq-default (st .slots) free (omega (arith, w .room, ltb-false (k .0) 256 e)))))
+  object-inside k h = omega (arith, w .room, slot-in st k (λ e. h (ap tagOf e)))
 
   -- an object replaced by one with the same note, whose memory is the old one's with a part replaced
   pub bytes-put : (k : Slot) (o : Object) (v : List ℕ) (n : ℕ) → k .0 < 256 → (tagOf (objAt st k) ≡ 1 → ⊥) → n + length v ≤ 64 * sizeOf (objAt st k)

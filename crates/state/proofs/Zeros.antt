@@ -1,10 +1,16 @@
--- Lists of zeros: "free and unused bytes are zero".
-use mathlib.Core.Path.{_≡_, _∙_, ap}
+-- Lists of copies, zeros above all: "free and unused bytes are zero".
+use mathlib.Core.Path.{_≡_, _∙_, ap, refl}
 use mathlib.Core.List.{List, _++_}
 use Prim.Native.Nat.{ℕ, zero, suc, _+_, _*_}
 use native.Mathlib.Omega.{arith}
-use lib.ListN.{replicate, replicate-append-replicate}
+use lib.ListN.{getD, replicate, replicate-append-replicate}
 use Rattle.state.specs.Bytes.{each}
+
+-- each is the one copied
+pub copies : {A : Type 0} (n e : ℕ) (d : A) → getD (replicate n d) e d ≡ d
+copies zero e d = refl
+copies (suc n) zero d = refl
+copies (suc n) (suc e) d = copies n e d
 
 -- zeros behind zeros
 pub zeros-more : (v : List ℕ) (a b c : ℕ) → v ≡ replicate a 0 → a + b ≡ c → v ++ replicate b 0 ≡ replicate c 0

@@ -2,7 +2,7 @@
 use mathlib.Core.Path.{_≡_, ap}
 use mathlib.Core.Bool.{Bool, true, false, false≢true}
 use Rattle.words.specs.Names.{Refusal}
-use Rattle.words.specs.Try.{Try, no!, ok!}
+use Rattle.words.specs.Try.{Try, no!, ok! }
 
 unfoldable pub isOk : {A : Type 0} → Try A → Bool
 isOk (no! r) = false

@@ -1,7 +1,7 @@
 -- What each answer of the code says, as a judgement of the rules; and the refusal in an answer that is one.
 use mathlib.Core.Bool.{Bool, true}
 use Rattle.words.specs.Names.{Refusal, BadState, Capability, Slot, Span, Stretch, FunctionRange, Spot, Frame, Action}
-use Rattle.words.specs.Try.{Try, no!, ok!}
+use Rattle.words.specs.Try.{Try, no!, ok! }
 use Rattle.words.specs.declared.answers.RightAnswer.{RightAnswer}
 use Rattle.words.specs.declared.answers.SlotAnswer.{SlotAnswer}
 use Rattle.words.specs.declared.answers.SpanAnswer.{SpanAnswer}

@@ -2,9 +2,13 @@
 // `let .. else`, and hands the refusal on by the function beside the enum.
 ghost use mathlib.Core.Path.{_≡_};
 ghost use Rattle.words.specs.Answers.{whyRight, whySlot, whySpan, whyStretch, whyRange, whySpot, whyFrame};
-
-use crate::actions::{Action, Spot};
-use crate::capabilities::{Capability, Frame, FunctionRange, Span, Stretch};
+use crate::actions::Action;
+use crate::actions::Spot;
+use crate::capabilities::Capability;
+use crate::capabilities::Frame;
+use crate::capabilities::FunctionRange;
+use crate::capabilities::Span;
+use crate::capabilities::Stretch;
 use crate::numbers::Slot;
 use crate::refusals::Refusal;
 

@@ -2,17 +2,27 @@
 // a frozen mark with its stamp, and a parent, unless it is a root."
 ghost use mathlib.Core.Path.{_≡_};
 ghost use Rattle.words.specs.Rights.{isThawed, isRoot, isBlank, placeThawed};
-
-use crate::numbers::{KernelAddress, Slot};
+use crate::numbers::KernelAddress;
+use crate::numbers::Slot;
 
 // A kind, with its range or object as data. A directory's and a function's high end is included, a memory's is not.
 pub enum Kind {
     Table(Slot),
-    Directory { object: Slot, low: u32, high: u32 },
-    Memory { low: KernelAddress, high: KernelAddress },
+    Directory {
+        object: Slot,
+        low: u32,
+        high: u32,
+    },
+    Memory {
+        low: KernelAddress,
+        high: KernelAddress,
+    },
     Process(Slot),
     Endpoint(Slot),
-    Function { low: u32, high: u32 },
+    Function {
+        low: u32,
+        high: u32,
+    },
 }
 
 // The frozen mark, with its stamp.

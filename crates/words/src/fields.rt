@@ -4,8 +4,8 @@ ghost use mathlib.Core.Path.{_≡_};
 ghost use Prim.Native.Nat.{_/_, _%_, _<_};
 ghost use Rattle.words.specs.Names.{CapabilityNumber, KernelAddress};
 ghost use Rattle.words.specs.Fields.{D1, D0, N, C, Q1, Q0, callNumber, numberOrder, capabilityNumber, address};
-
-use crate::numbers::{CapabilityNumber, KernelAddress};
+use crate::numbers::CapabilityNumber;
+use crate::numbers::KernelAddress;
 
 // The words of a call; nc is N:C.
 pub struct Words {

@@ -1,7 +1,6 @@
 // Memory grants: "upper address = P3.D1 over N[15:6] and six zeros, lower = P3.D0 over C[15:6] and six zeros, flags = C[5:0]".
 ghost use mathlib.Core.Path.{_≡_};
 ghost use Rattle.words.specs.Grants.{pack, unpack, told};
-
 use crate::numbers::KernelAddress;
 use crate::refusals::Refusal;
 
@@ -30,7 +29,11 @@ pub fn unpack_grant(w: Packed) -> Grant
     let p3 = w.p3;
     let lower = KernelAddress(p3 % 65536 * 65536 + nc % 65536 / 64 * 64);
     let upper = KernelAddress(p3 / 65536 * 65536 + nc / 65536 / 64 * 64);
-    Grant { lower, upper, flags: nc % 64 }
+    Grant {
+        lower,
+        upper,
+        flags: nc % 64,
+    }
 }
 
 // "Packing writes call number 3 and gives −5 for an address off 64 or flags above 63"

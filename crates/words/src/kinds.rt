@@ -1,7 +1,6 @@
 // The parts of a kind as plain numbers, 0 where the kind has none: what a table entry stores of it.
 ghost use mathlib.Core.Path.{_≡_};
 ghost use Rattle.words.specs.Rights.{kindNo, objectOf, lowOf, highOf, allFlags};
-
 use crate::capabilities::Kind;
 use crate::numbers::Slot;
 
@@ -10,7 +9,11 @@ pub fn kind_number(k: Kind) -> u32
 {
     match k {
         Kind::Table(_) => 1,
-        Kind::Directory { object: _, low: _, high: _ } => 2,
+        Kind::Directory {
+            object: _,
+            low: _,
+            high: _,
+        } => 2,
         Kind::Memory { low: _, high: _ } => 3,
         Kind::Process(_) => 4,
         Kind::Endpoint(_) => 5,
@@ -23,7 +26,11 @@ pub fn object_of(k: Kind) -> Slot
 {
     match k {
         Kind::Table(o) => o,
-        Kind::Directory { object, low: _, high: _ } => object,
+        Kind::Directory {
+            object,
+            low: _,
+            high: _,
+        } => object,
         Kind::Memory { low: _, high: _ } => Slot(0),
         Kind::Process(o) => o,
         Kind::Endpoint(o) => o,
@@ -36,7 +43,11 @@ pub fn low_of(k: Kind) -> u32
 {
     match k {
         Kind::Table(_) => 0,
-        Kind::Directory { object: _, low, high: _ } => low,
+        Kind::Directory {
+            object: _,
+            low,
+            high: _,
+        } => low,
         Kind::Memory { low, high: _ } => low.0,
         Kind::Process(_) => 0,
         Kind::Endpoint(_) => 0,
@@ -49,7 +60,11 @@ pub fn high_of(k: Kind) -> u32
 {
     match k {
         Kind::Table(_) => 0,
-        Kind::Directory { object: _, low: _, high } => high,
+        Kind::Directory {
+            object: _,
+            low: _,
+            high,
+        } => high,
         Kind::Memory { low: _, high } => high.0,
         Kind::Process(_) => 0,
         Kind::Endpoint(_) => 0,
@@ -63,7 +78,11 @@ pub fn all_flags(k: Kind) -> u32
 {
     match k {
         Kind::Table(_) => 255,
-        Kind::Directory { object: _, low: _, high: _ } => 255,
+        Kind::Directory {
+            object: _,
+            low: _,
+            high: _,
+        } => 255,
         Kind::Memory { low: _, high: _ } => 63,
         Kind::Process(_) => 7,
         Kind::Endpoint(_) => 63,

@@ -4,7 +4,6 @@ ghost use Prim.Native.Nat.{_≤_};
 ghost use lib.ListN.{length};
 ghost use Rattle.state.specs.State.{splice};
 ghost use Rattle.state.specs.Bytes.{le32};
-
 use crate::bytes::put_word;
 
 pub fn store_clock(s: &mut [u8], c: u32)

@@ -5,7 +5,6 @@ ghost use lib.ListN.{length};
 ghost use Rattle.state.specs.State.{splice};
 ghost use Rattle.state.specs.Bytes.{wordsBytes, positionBytes};
 ghost use Rattle.writing.specs.Flags.{positionFlags};
-
 use crate::bytes::store_words;
 use words::capabilities::Position;
 use words::numbers::Slot;

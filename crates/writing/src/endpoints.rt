@@ -4,9 +4,9 @@ ghost use Prim.Native.Nat.{_+_, _*_, _≤_};
 ghost use lib.ListN.{length};
 ghost use Rattle.state.specs.State.{splice};
 ghost use Rattle.state.specs.Bytes.{le32};
-
 use crate::bytes::put_word;
-use words::numbers::{Count, Slot};
+use words::numbers::Count;
+use words::numbers::Slot;
 
 pub fn store_count(s: &mut [u8], e: Slot, c: Count)
     requires { ⌜ 64 * e .0 + 4 ≤ length (now s) ⌝ }

@@ -5,8 +5,8 @@ ghost use Prim.Native.Nat.{_+_, _*_, _-_, _≤_};
 ghost use lib.ListN.{length, replicate};
 ghost use Rattle.state.specs.State.{splice, body};
 ghost use Rattle.state.specs.Bytes.{each, noteOf, noteBytes};
-
-use crate::bytes::{put_run, put_word};
+use crate::bytes::put_run;
+use crate::bytes::put_word;
 use words::numbers::Slot;
 
 // The note of a first slot, and behind it those of the later slots, which name it.

@@ -4,7 +4,6 @@ ghost use Prim.Native.Nat.{_+_, _*_, _≤_};
 ghost use lib.ListN.{length};
 ghost use Rattle.state.specs.State.{splice};
 ghost use Rattle.state.specs.Bytes.{le32};
-
 use crate::bytes::put_word;
 use words::numbers::Slot;
 

@@ -5,8 +5,8 @@ ghost use Prim.Native.Nat.{_+_, _*_, _-_, _≤_};
 ghost use lib.ListN.{length, replicate};
 ghost use Rattle.state.specs.State.{splice};
 ghost use Rattle.state.specs.Bytes.{wordsBytes};
-
-use crate::bytes::{put_run, put_word};
+use crate::bytes::put_run;
+use crate::bytes::put_word;
 use words::numbers::Slot;
 
 // Three words, and zeros: a new object in its n slots.

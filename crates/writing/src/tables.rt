@@ -5,10 +5,15 @@ ghost use lib.ListN.{length};
 ghost use Rattle.words.specs.Rights.{stampOf};
 ghost use Rattle.state.specs.State.{splice};
 ghost use Rattle.state.specs.Bytes.{le32, wordsBytes, frozenNo, parentNo, rightWords, placeBytes};
-
 use crate::bytes::store_words;
-use words::capabilities::{Capability, Frost, Origin, Place};
-use words::kinds::{high_of, kind_number, low_of, object_of};
+use words::capabilities::Capability;
+use words::capabilities::Frost;
+use words::capabilities::Origin;
+use words::capabilities::Place;
+use words::kinds::high_of;
+use words::kinds::kind_number;
+use words::kinds::low_of;
+use words::kinds::object_of;
 use words::numbers::Slot;
 
 fn frozen_number(f: Frost) -> u32

@@ -1,48 +1,49 @@
--- `audit_roots::count_all` meets its contract: the counts have the tables passed, and there is none behind them.
+-- `audit_roots::count_all` meets its contract: the counts have the listed tables passed, and there is no other table.
 use mathlib.Core.Path.{sym, _≡_}
 use Prim.Native.Nat.{_-_, _≤_}
 use native.Mathlib.Omega.{arith}
 use borrow.Author.Needs.{needs}
 use denote.Ref.{now}
 use Rattle.state.specs.Read.{read}
-use Rattle.audit_roots.specs.Roots.{Counts, mostRoots, rootsBelow}
-use Rattle.audit_roots.proofs.Counting.{below-most, below-next, below-vacant, counts-next, counts-same, counts-upto}
+use Rattle.audit_roots.specs.Roots.{Counts, mostRoots}
+use Rattle.audit_roots.proofs.Counting.{counts-next, counts-same, counts-upto, listed-all, listed-most, listed-next, listed-none, rootsListed}
 use Rattle.audit_roots.proofs.count_all.Statement.{statement}
 use Rattle.audit_roots.proofs.count_all.Tie as tie
 
 abbrev Inv-loop : tie.InvT-loop
-Inv-loop s n counts₀ k₀ counts k = (k ≤ n) × Counts counts (rootsBelow (read s) k)
+Inv-loop s heads n counts₀ i₀ counts i = (i ≤ n) × Counts counts (rootsListed (read s) heads i)
 
 abbrev μ-loop : tie.MeasureT-loop
-μ-loop s n counts₀ k₀ counts k = n - k
+μ-loop s heads n counts₀ i₀ counts i = n - i
 
 loop-holds : tie.Need-loop-holds Inv-loop μ-loop
-loop-holds c = (search needs, c .before .pre .3)
+loop-holds c = let a = c .before .args in (search needs, counts-same _ _ _ (c .before .pre .3) (listed-none (read (now (a .s))) (now (a .heads))))
 
-cast-t7 : tie.Need-cast-t7 Inv-loop μ-loop
-cast-t7 c = search needs
+element-copy-out-t10 : tie.Need-element-copy-out-t10 Inv-loop μ-loop
+element-copy-out-t10 c = search needs
 
 count-slot-requires : tie.Need-count-slot-requires Inv-loop μ-loop
-count-slot-requires c κs = let l = c .before .before .loop in
-    let pre = c .before .before .before .before .pre in
-    (pre .0, pre .1, counts-upto _ _ mostRoots (l .inv .1) (λ k h. omega (arith, below-most _ (pre .1) (l .k) k, l .inv .0, pre .2 .few)))
+count-slot-requires c κs = let l = c .before .before .before .loop in
+    let A = c .before .before .before .before .before in
+    let pre = A .pre in
+    (pre .0, pre .1, counts-upto _ _ mostRoots (l .inv .1) (λ k h. omega (arith, listed-most _ (pre .1) (now (A .args .heads)) (l .i) k, l .inv .0, pre .2 .few)))
 
-add-k : tie.Need-add-k Inv-loop μ-loop
-add-k c = search needs
+add-i : tie.Need-add-i Inv-loop μ-loop
+add-i c = search needs
 
 loop-less : tie.Need-loop-less Inv-loop μ-loop
 loop-less c = search needs
 
 loop-again : tie.Need-loop-again Inv-loop μ-loop
-loop-again c = let l = c .before .before .before .loop in
-    let a = c .before .before .before .before .before .args in
-    (search needs, counts-next _ _ _ _ _ (l .inv .1) (c .count-slot .ensures) (λ k. sym (below-next (read (now (a .s))) (l .k) k)))
+loop-again c = let l = c .before .before .before .before .loop in
+    let a = c .before .before .before .before .before .before .args in
+    (search needs, counts-next _ _ _ _ _ (l .inv .1) (c .count-slot .ensures) (λ k. sym (listed-next (read (now (a .s))) (now (a .heads)) (l .i) k)))
 
 returns : tie.Need-returns Inv-loop μ-loop
 returns c = let A = c .before .before .before in
     let l = c .before .loop in
-    let done : l .k ≡ A .args .n = omega arith in
-    counts-same _ _ _ (rw done at (l .inv .1)) (below-vacant _ (A .args .n) (A .pre .2))
+    let done : l .i ≡ A .args .n = omega arith in
+    counts-same _ _ _ (rw done at (l .inv .1)) (listed-all _ _ (A .args .n) (A .pre .2))
 
 pub count-all-spec : {M : Type 1} → statement M
 count-all-spec =
@@ -51,9 +52,9 @@ count-all-spec =
     Inv-loop
     μ-loop
     loop-holds
-    cast-t7
+    element-copy-out-t10
     count-slot-requires
-    add-k
+    add-i
     loop-less
     loop-again
     returns)

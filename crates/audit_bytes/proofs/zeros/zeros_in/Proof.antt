@@ -7,7 +7,7 @@ use native.Mathlib.Numerals.{add-one}
 use lib.Dec.{eqb}
 use borrow.Author.Needs.{needs}
 use denote.Ref.{now}
-use Rattle.words.specs.Tests.{_&_, allBelow}
+use Rattle.words.specs.Tests.{_&_}
 use Rattle.words.proofs.Tests.{all-zero}
 use Rattle.audit_bytes.specs.Clean.{zeroWords}
 use Rattle.audit_bytes.proofs.Tests.{all-back, or-zero}
@@ -43,10 +43,12 @@ loop-less c = search needs
 loop-again : tie.Need-loop-again Inv-loop μ-loop
 unfolding zeroWords
 loop-again c = let a = c .before .before .before .before .args in
-    let l = c .before .before .loop in
-    (search needs, or-zero (l .seen) (c .word-in .result)
-    ∙ ap₂ (λ (x y : Bool). x & y) (l .inv .1) (ap (λ (w : ℕ). eqb w 0) (c .word-in .ensures))
-    ∙ rw (add-one (l .i)) (sym (all-back (l .i) (λ j. eqb (wordAt (now (a .s)) (a .at + 4 * j)) 0))))
+    let l = c .before .before .loop in (
+      search needs,
+      or-zero (l .seen) (c .word-in .result)
+          ∙ ap₂ (λ (x y : Bool). x & y) (l .inv .1) (ap (λ (w : ℕ). eqb w 0) (c .word-in .ensures))
+          ∙ rw (add-one (l .i)) (sym (all-back (l .i) (λ j. eqb (wordAt (now (a .s)) (a .at + 4 * j)) 0))),
+    )
 
 returns : tie.Need-returns Inv-loop μ-loop
 returns c = let a = c .before .before .before .args in

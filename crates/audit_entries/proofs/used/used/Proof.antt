@@ -1,8 +1,6 @@
 -- `audit_entries::used::used` meets its contract: the slots that the search has left behind have notes of zeros.
 use mathlib.Core.Path.{sym, _∙_}
-use native.Mathlib.Omega.{arith}
 use borrow.Author.Needs.{needs}
-use denote.Ref.{now}
 use Rattle.audit_entries.specs.Vacant.{Vacant}
 use Rattle.audit_entries.proofs.Vacant.{vacant-more, vacant-none}
 use Rattle.audit_entries.proofs.used.used.Statement.{statement}

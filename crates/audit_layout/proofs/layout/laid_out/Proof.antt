@@ -83,8 +83,8 @@ returns-3 : tie.Need-returns-3 Inv-loop μ-loop
 returns-3 c = let A = c .before .before .before in
     let a = A .args in
     let l = c .before .loop in
-    sym (l .inv .1 ∙ lay-vacant (read (now (a .s))) (256 - l .k) (l .owed) (l .first) (l .k) (omega (arith, slots-length (now (a .s)), A .pre .few))
-    (λ j h i. vacant-free (now (a .s)) (a .n) (A .pre) j (omega arith) (omega (arith, slots-length (now (a .s))))))
+    sym (l .inv .1 ∙ lay-vacant (read (now (a .s))) (256 - l .k) (l .owed) (l .first) (l .k) (omega (arith, slots-length (now (a .s)), A .pre .1 .few))
+    (λ j h i. vacant-free (now (a .s)) (a .n) (A .pre .1) j (omega arith) (omega (arith, slots-length (now (a .s))))))
 
 pub laid-out-spec : {M : Type 1} → statement M
 laid-out-spec =

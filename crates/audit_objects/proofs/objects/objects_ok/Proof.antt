@@ -1,59 +1,62 @@
--- `audit_objects::objects::objects_ok` meets its contract: the objects passed so far are as they must be, and of a free slot nothing is asked.
-use mathlib.Core.Path.{_≡_, sym, _∙_}
+-- `audit_objects::objects::objects_ok` meets its contract: the listed objects passed so far are as they must be, and of the other slots nothing is asked.
+use mathlib.Core.Path.{_≡_, refl, sym, _∙_}
 use mathlib.Core.Bool.{true}
 use Prim.Native.Nat.{_-_, _≤_}
 use native.Mathlib.Omega.{arith}
 use native.Mathlib.Numerals.{add-one}
+use lib.ListN.{getD}
 use borrow.Author.Tests.{not-true, not-false}
 use borrow.Author.Needs.{needs}
+use denote.Ref.{now}
+use Rattle.words.specs.Fields.{slot}
 use Rattle.words.specs.Tests.{allBelow}
 use Rattle.words.proofs.Tests.{all-zero, all-more, all-not}
+use Rattle.audit_entries.proofs.Listed.{heads-objects}
 use Rattle.state.specs.Read.{read}
 use Rattle.state.specs.State.{objAt}
 use Rattle.rules.specs.WellFormed.{objectOk, everyObject}
-use Rattle.words.specs.Fields.{slot}
-use Rattle.audit_entries.proofs.Vacant.{vacant-all, vacant-free}
 use Rattle.audit_objects.proofs.objects.objects_ok.Statement.{statement}
 use Rattle.audit_objects.proofs.objects.objects_ok.Tie as tie
 
 abbrev Inv-loop : tie.InvT-loop
-Inv-loop s n k₀ k = (k ≤ n) × (allBelow k (λ i. objectOk (read s) (slot i) (objAt (read s) (slot i))) ≡ true)
+Inv-loop s heads n i₀ i = (i ≤ n) × (allBelow i (λ j. objectOk (read s) (slot (getD heads j 0)) (objAt (read s) (slot (getD heads j 0)))) ≡ true)
 
 abbrev μ-loop : tie.MeasureT-loop
-μ-loop s n k₀ k = n - k
+μ-loop s heads n i₀ i = n - i
 
 loop-holds : tie.Need-loop-holds Inv-loop μ-loop
 loop-holds c = (search needs, all-zero _)
 
-cast-t5 : tie.Need-cast-t5 Inv-loop μ-loop
-cast-t5 c = search needs
+element-copy-out-t8 : tie.Need-element-copy-out-t8 Inv-loop μ-loop
+element-copy-out-t8 c = search needs
 
 object-ok-requires : tie.Need-object-ok-requires Inv-loop μ-loop
 object-ok-requires c κs = search needs
 
 returns : tie.Need-returns Inv-loop μ-loop
-unfolding everyObject
-returns c = let l = c .before .before .before .loop in
+unfolding everyObject objectOk
+returns c = let A = c .before .before .before .before .before .before in
+    let l = c .before .before .before .before .loop in
     let one = sym (c .before .object-ok .ensures) ∙ not-true _ (c .if1 .taken) in
-    sym (all-not _ _ (l .k) (omega (arith, c .before .before .before .before .before .pre .2 .few)) one)
+    sym (sym (heads-objects (now (A .args .s)) _ (A .args .n) (A .pre .2) (objectOk (read (now (A .args .s)))) (λ k. refl) (λ k f. refl)) ∙ all-not (A .args .n) _ (l .i) (c .before .before .before .loop-test .taken) one)
 
-add-k : tie.Need-add-k Inv-loop μ-loop
-add-k c = search needs
+add-i : tie.Need-add-i Inv-loop μ-loop
+add-i c = search needs
 
 loop-less : tie.Need-loop-less Inv-loop μ-loop
 loop-less c = search needs
 
 loop-again : tie.Need-loop-again Inv-loop μ-loop
-loop-again c = let l = c .before .before .before .loop in
+loop-again c = let l = c .before .before .before .before .loop in
     let one = sym (c .before .object-ok .ensures) ∙ not-false _ (c .if1 .left) in
-    (search needs, rw (add-one (l .k)) (all-more (l .k) _ (l .inv .1) one))
+    (search needs, rw (add-one (l .i)) (all-more (l .i) _ (l .inv .1) one))
 
 returns-2 : tie.Need-returns-2 Inv-loop μ-loop
 unfolding everyObject objectOk
-returns-2 c = let l = c .before .loop in
-    let A = c .before .before .before in
-    let e : l .k ≡ A .args .n = omega arith in
-    sym (vacant-all _ (A .args .n) (A .pre .2) _ (rw e at (l .inv .1)) (λ k h i. rw (vacant-free _ _ (A .pre .2) k h i)))
+returns-2 c = let A = c .before .before .before in
+    let l = c .before .loop in
+    let e : l .i ≡ A .args .n = omega arith in
+    sym (sym (heads-objects (now (A .args .s)) _ (A .args .n) (A .pre .2) (objectOk (read (now (A .args .s)))) (λ k. refl) (λ k f. refl)) ∙ rw e at (l .inv .1))
 
 pub objects-ok-spec : {M : Type 1} → statement M
 objects-ok-spec =
@@ -62,10 +65,10 @@ objects-ok-spec =
     Inv-loop
     μ-loop
     loop-holds
-    cast-t5
+    element-copy-out-t8
     object-ok-requires
     returns
-    add-k
+    add-i
     loop-less
     loop-again
     returns-2)

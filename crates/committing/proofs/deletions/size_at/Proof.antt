@@ -3,7 +3,8 @@ use mathlib.Core.Path.{sym, _∙_}
 use native.Mathlib.Omega.{arith}
 use borrow.Author.Needs.{needs}
 use denote.Ref.{now}
-use Rattle.committing.proofs.Sizes.{part-size, table-there, directory-size, one-slot, positions-few}
+use Rattle.state.proofs.Few.{few-positions}
+use Rattle.committing.proofs.Sizes.{part-size, table-there, directory-size, one-slot}
 use Rattle.state.specs.State.{objAt}
 use Rattle.state.specs.Read.{read}
 use Rattle.committing.proofs.deletions.size_at.Statement.{statement}
@@ -30,17 +31,17 @@ positions-in-requires c κs = search needs
 mul-result-2 : tie.Need-mul-result-2
 mul-result-2 c = let z = c .before .before .before .before in
     let a = z .args in
-    omega (arith, c .positions-in .ensures, positions-few (now (a .s)) (a .o) (search needs))
+    omega (arith, c .positions-in .ensures, few-positions (now (a .s)) (a .o) (search needs))
 
 add-result-2 : tie.Need-add-result-2
 add-result-2 c = let z = c .before .before .before .before in
     let a = z .args in
-    omega (arith, c .positions-in .ensures, positions-few (now (a .s)) (a .o) (search needs))
+    omega (arith, c .positions-in .ensures, few-positions (now (a .s)) (a .o) (search needs))
 
 add-result-3 : tie.Need-add-result-3
 add-result-3 c = let z = c .before .before .before .before in
     let a = z .args in
-    omega (arith, c .positions-in .ensures, positions-few (now (a .s)) (a .o) (search needs))
+    omega (arith, c .positions-in .ensures, few-positions (now (a .s)) (a .o) (search needs))
 
 returns : tie.Need-returns
 returns c = let z = c .before .before .before in

@@ -50,9 +50,9 @@ loop-holds c = (omega arith, c .before .before .before .before .before .search .
 
 is-child-requires : tie.Need-is-child-requires Inv-loop μ-loop Inv-search μ-search
 is-child-requires c κs = let a = c .before .before .before .before .before .before .before .before .before .before .args in let s = c .before .before .before .before .before .before .before .search in let n = c .before .before .before .before .before .before .before .before .place-number in let t = c .before .before .before .before .before .slot-numbered in (
-      omega (arith, c .before .before .before .before .entries-in .ensures, few-entries (now (a .s)) (λ i. omega (arith, c .before .before .before .before .before .before .before .before .before .shared-slice-known .given i)) (s .k) (t .result) (omega arith) (t .ensures)),
-      omega (arith, n .ensures),
-    )
+  omega (arith, c .before .before .before .before .entries-in .ensures, few-entries (now (a .s)) (λ i. omega (arith, c .before .before .before .before .before .before .before .before .before .shared-slice-known .given i)) (s .k) (t .result) (omega arith) (t .ensures)),
+  omega (arith, n .ensures),
+)
 
 add-e : tie.Need-add-e Inv-loop μ-loop Inv-search μ-search
 add-e c = omega arith

@@ -2,7 +2,7 @@
 use mathlib.Core.Path.{sym, _∙_}
 use borrow.Author.Tests.{not-false, not-true}
 use borrow.Author.Needs.{needs}
-use Rattle.judging_directories.proofs.Shapes.{number-small}
+use Rattle.rules.proofs.Facts.{number-few}
 use Rattle.words.specs.Try.{_>>=_, _>>_, need}
 use Rattle.judging_directories.specs.Shaping.{shapeAndPlace}
 use Rattle.judging_directories.proofs.create_directory.shape_and_place.Statement.{statement}
@@ -16,7 +16,7 @@ unfolding shapeAndPlace _>>=_ _>>_ need
 returns c = rw (← c .before .is-geometric .ensures, not-true (c .before .is-geometric .result) (c .if1 .taken))
 
 slots-taken-requires : tie.Need-slots-taken-requires
-slots-taken-requires c κs = number-small (c .before .before .before .args .g) (sym (c .before .is-geometric .ensures) ∙ not-false (c .before .is-geometric .result) (c .if1 .left))
+slots-taken-requires c κs = number-few (c .before .before .before .args .g) (sym (c .before .is-geometric .ensures) ∙ not-false (c .before .is-geometric .result) (c .if1 .left))
 
 address-arg-requires : tie.Need-address-arg-requires
 address-arg-requires c κs = search needs

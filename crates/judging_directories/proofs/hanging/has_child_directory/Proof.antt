@@ -9,7 +9,8 @@ use denote.Ref.{now}
 use Rattle.words.specs.Sizes.{slotCount}
 use Rattle.words.specs.Tests.{anyBelow}
 use Rattle.words.proofs.Tests.{any-zero, any-more}
-use Rattle.judging_directories.proofs.Search.{childIn, few-positions, no-child, a-child}
+use Rattle.state.proofs.Few.{few-positions}
+use Rattle.judging_directories.proofs.Search.{childIn, no-child, a-child}
 use Rattle.judging_directories.proofs.hanging.has_child_directory.Statement.{statement}
 use Rattle.judging_directories.proofs.hanging.has_child_directory.Tie as tie
 

@@ -29,9 +29,10 @@ returns : tie.Need-returns
 returns c = none _ (c .if1 .taken) ∙ ap countOf (toZ-ofZ w32 (c .before .args .answer) (c .before .fits .answer))
 
 cast-result : tie.Need-cast-result
-cast-result c =
-    ( yes-nonNeg {z = toZ w32 (ofZ w32 (c .before .args .answer))} (ltZ-no (subst (λ (b : Bool). T (not b)) (sym (c .if1 .left)) tt))
-    , subst (λ (z : ℤ). Fits w32 (natAbs z)) (sym (toZ-ofZ w32 (c .before .args .answer) (c .before .fits .answer))) (record { fits = lt-of-le-of-lt (natAbs-le (c .before .args .answer) (c .before .fits .answer .sfits)) (lit< tt) }))
+cast-result c = (
+  yes-nonNeg {z = toZ w32 (ofZ w32 (c .before .args .answer))} (ltZ-no (subst (λ (b : Bool). T (not b)) (sym (c .if1 .left)) tt)),
+  subst (λ (z : ℤ). Fits w32 (natAbs z)) (sym (toZ-ofZ w32 (c .before .args .answer) (c .before .fits .answer))) (record { fits = lt-of-le-of-lt (natAbs-le (c .before .args .answer) (c .before .fits .answer .sfits)) (lit< tt) }),
+)
 
 returns-2 : tie.Need-returns-2
 returns-2 c = own _ (c .if1 .left) ∙ ap countOf (toZ-ofZ w32 (c .before .args .answer) (c .before .fits .answer))

@@ -17,15 +17,17 @@ add-t7 c = search needs
 
 returns-2 : tie.Need-returns-2
 unfolding gathered stored
-returns-2 c =
-    ( rw (ne-eqb _ _ (c .before .if1 .left), lt-ltb _ _ (c .if2 .taken))
-    , rw (ne-eqb _ _ (c .before .if1 .left), lt-ltb _ _ (c .if2 .taken)))
+returns-2 c = (
+  rw (ne-eqb _ _ (c .before .if1 .left), lt-ltb _ _ (c .if2 .taken)),
+  rw (ne-eqb _ _ (c .before .if1 .left), lt-ltb _ _ (c .if2 .taken)),
+)
 
 returns-3 : tie.Need-returns-3
 unfolding gathered stored
-returns-3 c =
-    ( rw (ne-eqb _ _ (c .before .if1 .left), le-ltb _ _ (c .if2 .left))
-    , rw (ne-eqb _ _ (c .before .if1 .left), le-ltb _ _ (c .if2 .left)))
+returns-3 c = (
+  rw (ne-eqb _ _ (c .before .if1 .left), le-ltb _ _ (c .if2 .left)),
+  rw (ne-eqb _ _ (c .before .if1 .left), le-ltb _ _ (c .if2 .left)),
+)
 
 pub gather-spec : {M : Type 1} → statement M
 gather-spec = tie.close (tie.spec returns element-write-line add-t7 returns-2 returns-3)
