@@ -2,7 +2,8 @@
 # Compares a console with the model's on the same generated lines, byte for byte.
 #   model/compare-console.sh CONSOLE [count] [seed]
 # CONSOLE is a program that reads lines from standard input, and puts words behind the answers when
-# its argument is `words`. Both modes are run. Ends with 0 if all is equal, with 1 at a difference.
+# its argument is `words`, or what WORDS names: WORDS=--words model/compare-console.sh ./cabinet
+# Both modes are run. Ends with 0 if all is equal, with 1 at a difference.
 set -eu
 
 if [ $# -lt 1 ] || [ $# -gt 3 ]; then
@@ -56,10 +57,10 @@ first_difference() {
 }
 
 for mode in numbers words; do
-    argument=
-    [ $mode = numbers ] || argument=words
+    argument= theirs=
+    [ $mode = numbers ] || argument=words theirs=${WORDS:-words}
     "$target/release/console" $argument <"$made/lines.txt" >"$made/model.txt"
-    "$console" $argument <"$made/lines.txt" >"$made/console.txt" ||
+    "$console" $theirs <"$made/lines.txt" >"$made/console.txt" ||
         echo "$mode: $1 ended with $?" >&2
     if ! cmp -s "$made/model.txt" "$made/console.txt"; then
         echo "DIFFERENCE ($mode, count $count, seed $seed):"
