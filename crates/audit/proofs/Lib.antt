@@ -1,3 +1,4 @@
 pub mod Still
 pub mod Order
 pub mod Ready
+pub mod Tight

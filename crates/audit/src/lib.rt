@@ -10,11 +10,13 @@ use audit_layout::layout::laid_out;
 use audit_objects::objects::objects_ok;
 use audit_rights::rights::rights_ok;
 use audit_roots::roots_ok;
+use words::sizes::SLOT_COUNT;
+use words::sizes::STATE_LENGTH;
 
 pub fn well_formed(s: &[u8]) -> bool
     ensures { λ r. ⌜ r ≡ sound (now (s .entry)) ⌝ }
 {
-    if s.len() != 17472 {
+    if s.len() != STATE_LENGTH {
         return false;
     }
     let n = used(s);
@@ -24,7 +26,7 @@ pub fn well_formed(s: &[u8]) -> bool
     if !canonical(s, n) {
         return false;
     }
-    let mut heads = [0u8; 256];
+    let mut heads = [0u8; SLOT_COUNT];
     let m = list_heads(s, n, &mut heads);
     if !objects_ok(s, &heads, m) {
         return false;
@@ -35,5 +37,5 @@ pub fn well_formed(s: &[u8]) -> bool
     if !roots_ok(s, &heads, m) {
         return false;
     }
-    chains_ok(s)
+    chains_ok(s, &heads, m)
 }

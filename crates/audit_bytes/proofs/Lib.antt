@@ -8,3 +8,4 @@ pub mod PlaceWords
 pub mod ObjectWords
 pub mod SlotParts
 pub mod Whole
+pub mod Tight

@@ -9,7 +9,7 @@ use Rattle.state.specs.Bytes.{memoryBytes, noteBytes, placeBytes, positionBytes
 use Rattle.state.specs.Read.{listed, marked, placeOf, positionOf, read, shapeFrom, wordAt}
 use Rattle.state.specs.State.{Object, directory, endpoint, objAt, process, table}
 use Rattle.words.specs.Fields.{count, slot}
-use Rattle.words.specs.Sizes.{entrySize, headerSize, memoryLength, slotSize}
+use Rattle.words.specs.Sizes.{entrySize, headerSize, memoryLength, positionSize, slotSize}
 use Rattle.words.specs.Tests.{_&_}
 use Rattle.audit_bytes.specs.Names.{Slot}
 
@@ -32,7 +32,7 @@ tableIn p n = table (listed n (λ i. placeOf p (entrySize * i)))
 
 -- the number order stands in the note, and no byte of the part depends on it
 abbrev pub directoryIn : List ℕ → ℕ → Object
-directoryIn p n = directory (shapeFrom 0 p) (listed n (λ i. positionOf p (headerSize + 8 * i)))
+directoryIn p n = directory (shapeFrom 0 p) (listed n (λ i. positionOf p (headerSize + positionSize * i)))
 
 abbrev pub processIn : List ℕ → Object
 processIn p = process (slot (getD p 0 0)) (slot (getD p 4 0))

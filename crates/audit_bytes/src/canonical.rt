@@ -11,6 +11,8 @@ ghost use Rattle.words.specs.Sizes.{stateLength};
 use crate::notes::notes_stand;
 use crate::objects::objects_stand;
 use crate::zeros::zeros_in;
+use words::layout::SPARE_OFFSET;
+use words::layout::SPARE_WORDS;
 
 // Whether a buffer whose objects are laid out is the bytes of the state that it is read as.
 pub fn canonical(s: &[u8], n: usize) -> bool
@@ -20,7 +22,7 @@ pub fn canonical(s: &[u8], n: usize) -> bool
     if !notes_stand(s, n) {
         return false;
     }
-    if !zeros_in(s, 17412, 15) {
+    if !zeros_in(s, SPARE_OFFSET, SPARE_WORDS) {
         return false;
     }
     objects_stand(s, n)

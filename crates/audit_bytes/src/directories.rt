@@ -9,18 +9,37 @@ ghost use Rattle.words.specs.Sizes.{headerSize, positionSize, slotSize, slotsFo
 ghost use Rattle.words.specs.Tests.{allBelow};
 use crate::zeros::zeros_in;
 use audit_entries::word_in;
+use words::fields::BYTE;
+use words::fields::HALF;
+use words::layout::CHILD;
+use words::layout::HEADER_SPARE_AT;
+use words::layout::HEADER_SPARE_WORDS;
+use words::layout::PAGE;
+use words::layout::POSITION_VALUE_AT;
+use words::layout::TOP_AT;
+use words::layout::WORD_SIZE;
+use words::sizes::HEADER_SIZE;
+use words::sizes::POSITION_SIZE;
+use words::sizes::SLOT_COUNT_U32;
+
+// The tags, as the lowest byte of a position's first word has them, and where position 0 has its frame or child.
+const PAGE_U32: u32 = PAGE as u32;
+
+const CHILD_U32: u32 = CHILD as u32;
+
+const VALUES_AT: usize = HEADER_SIZE + POSITION_VALUE_AT;
 
 // A page has flags and any frame, a child flags and a slot, and what is empty is zero.
 fn position_clean(first: u32, second: u32) -> bool
     ensures { λ r. ⌜ r ≡ positionClean first second ⌝ }
 {
-    match first % 256 {
-        1 => first < 65536,
-        2 => {
-            if 65536 <= first {
+    match first % BYTE {
+        PAGE_U32 => first < HALF,
+        CHILD_U32 => {
+            if HALF <= first {
                 return false;
             }
-            second < 256
+            second < SLOT_COUNT_U32
         }
         _ => {
             if first != 0 {
@@ -37,7 +56,10 @@ fn positions_stand(p: &[u8], n: usize) -> bool
 {
     let mut i: usize = 0;
     while i < n {
-        if !position_clean(word_in(p, 32 + 8 * i), word_in(p, 36 + 8 * i)) {
+        if !position_clean(
+            word_in(p, HEADER_SIZE + POSITION_SIZE * i),
+            word_in(p, VALUES_AT + POSITION_SIZE * i),
+        ) {
             return false;
         }
         i += 1;
@@ -46,20 +68,20 @@ fn positions_stand(p: &[u8], n: usize) -> bool
 }
 
 // The top mark is 0 or 1, and five words of the header are not used.
-pub fn directory_stands(p: &[u8], positions: u32) -> bool
+pub(crate) fn directory_stands(p: &[u8], positions: u32) -> bool
     requires { ⌜ length (now p) ≡ slotSize * slotsFor (headerSize + positionSize * positions) ⌝ }
     ensures { λ r. ⌜ r ≡ starts (memoryBytes (directoryIn (now (p .entry)) positions)) (now (p .entry)) ⌝ }
 {
     let n = positions as usize;
-    if 1 < word_in(p, 4) {
+    if 1 < word_in(p, TOP_AT) {
         return false;
     }
-    if !zeros_in(p, 12, 5) {
+    if !zeros_in(p, HEADER_SPARE_AT, HEADER_SPARE_WORDS) {
         return false;
     }
     if !positions_stand(p, n) {
         return false;
     }
-    let own = 32 + 8 * n;
-    zeros_in(p, own, (p.len() - own) / 4)
+    let own = HEADER_SIZE + POSITION_SIZE * n;
+    zeros_in(p, own, (p.len() - own) / WORD_SIZE)
 }

@@ -21,20 +21,33 @@ use reading::bytes::slots_from;
 use reading::directories::positions_in;
 use reading::notes::argument_byte;
 use reading::notes::tag_byte;
+use words::layout::BOOT_MARK_AT;
+use words::layout::DIRECTORY_NAMED_AT;
+use words::layout::DIRECTORY_TAG;
+use words::layout::ENDPOINT_TAG;
+use words::layout::LATER_TAG;
+use words::layout::OBJECT_SPARE_AT;
+use words::layout::OBJECT_SPARE_WORDS;
+use words::layout::PROCESS_TAG;
+use words::layout::SLOT_WORDS;
+use words::layout::TABLE_TAG;
 use words::numbers::Slot;
+use words::sizes::SLOT_COUNT;
+use words::sizes::SLOT_COUNT_U32;
+use words::sizes::SLOT_SIZE;
 
 // Two slots, and zeros.
 fn process_stands(p: &[u8]) -> bool
     requires { ⌜ length (now p) ≡ slotSize ⌝ }
     ensures { λ r. ⌜ r ≡ starts (memoryBytes (processIn (now (p .entry)))) (now (p .entry)) ⌝ }
 {
-    if 256 <= word_in(p, 0) {
+    if SLOT_COUNT_U32 <= word_in(p, 0) {
         return false;
     }
-    if 256 <= word_in(p, 4) {
+    if SLOT_COUNT_U32 <= word_in(p, DIRECTORY_NAMED_AT) {
         return false;
     }
-    zeros_in(p, 8, 14)
+    zeros_in(p, OBJECT_SPARE_AT, OBJECT_SPARE_WORDS)
 }
 
 // Any count, a boot mark of 0 or 1, and zeros.
@@ -42,10 +55,10 @@ fn endpoint_stands(p: &[u8]) -> bool
     requires { ⌜ length (now p) ≡ slotSize ⌝ }
     ensures { λ r. ⌜ r ≡ starts (memoryBytes (endpointIn (now (p .entry)))) (now (p .entry)) ⌝ }
 {
-    if 1 < word_in(p, 4) {
+    if 1 < word_in(p, BOOT_MARK_AT) {
         return false;
     }
-    zeros_in(p, 8, 14)
+    zeros_in(p, OBJECT_SPARE_AT, OBJECT_SPARE_WORDS)
 }
 
 // "hands on just its slots": those of what stands in a slot.
@@ -62,17 +75,17 @@ fn object_stands(s: &[u8], k: Slot) -> bool
     ensures { λ r. ⌜ r ≡ objectStands (now (s .entry)) k ⌝ }
 {
     match tag_byte(s, k) {
-        1 => true,
-        2 => table_stands(own_slots(s, k), argument_byte(s, k)),
-        3 => directory_stands(own_slots(s, k), positions_in(s, k)),
-        4 => process_stands(own_slots(s, k)),
-        5 => endpoint_stands(own_slots(s, k)),
-        _ => zeros_in(s, 64 * (k.0 as usize), 16),
+        LATER_TAG => true,
+        TABLE_TAG => table_stands(own_slots(s, k), argument_byte(s, k)),
+        DIRECTORY_TAG => directory_stands(own_slots(s, k), positions_in(s, k)),
+        PROCESS_TAG => process_stands(own_slots(s, k)),
+        ENDPOINT_TAG => endpoint_stands(own_slots(s, k)),
+        _ => zeros_in(s, SLOT_SIZE * (k.0 as usize), SLOT_WORDS),
     }
 }
 
 // Behind the n slots that are used each slot is free, and no note is read.
-pub fn objects_stand(s: &[u8], n: usize) -> bool
+pub(crate) fn objects_stand(s: &[u8], n: usize) -> bool
     requires { ⌜ (length (now s) ≡ stateLength) × (apart (read (now s)) ≡ true) × Vacant (now s) n ⌝ }
     ensures { λ r. ⌜ r ≡ allBelow slotCount (λ k. objectStands (now (s .entry)) (slot k)) ⌝ }
 {
@@ -83,8 +96,8 @@ pub fn objects_stand(s: &[u8], n: usize) -> bool
         }
         k += 1;
     }
-    while k < 256 {
-        if !zeros_in(s, 64 * k, 16) {
+    while k < SLOT_COUNT {
+        if !zeros_in(s, SLOT_SIZE * k, SLOT_WORDS) {
             return false;
         }
         k += 1;

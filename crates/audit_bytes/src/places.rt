@@ -5,8 +5,27 @@ ghost use Prim.Native.Nat.{_+_, _≤_};
 ghost use lib.ListN.{length};
 ghost use Rattle.audit_bytes.specs.Clean.{frostClean, kindClean, objectAlone};
 ghost use Rattle.audit_bytes.specs.Stands.{placeStands};
+ghost use Rattle.words.specs.Sizes.{entrySize};
 use crate::zeros::zeros_in;
 use audit_entries::word_in;
+use words::layout::BLANK;
+use words::layout::DIRECTORY_KIND;
+use words::layout::ENDPOINT_KIND;
+use words::layout::ENTRY_WORDS;
+use words::layout::FLAGS_AT;
+use words::layout::FROZEN_AT;
+use words::layout::FUNCTION_KIND;
+use words::layout::HIGH_AT;
+use words::layout::LOW_AT;
+use words::layout::MEMORY_KIND;
+use words::layout::OBJECT_AT;
+use words::layout::PROCESS_KIND;
+use words::layout::STAMP_AT;
+use words::layout::TABLE_KIND;
+use words::sizes::SLOT_COUNT_U32;
+
+// The words of an entry behind its kind.
+const WORDS_BEHIND: usize = ENTRY_WORDS - 1;
 
 // Kinds without a range.
 fn object_alone(low: u32, high: u32, object: u32) -> bool
@@ -18,19 +37,19 @@ fn object_alone(low: u32, high: u32, object: u32) -> bool
     if high != 0 {
         return false;
     }
-    object < 256
+    object < SLOT_COUNT_U32
 }
 
 fn kind_clean(kind: u32, low: u32, high: u32, object: u32) -> bool
     ensures { λ r. ⌜ r ≡ kindClean kind low high object ⌝ }
 {
     match kind {
-        1 => object_alone(low, high, object),
-        2 => object < 256,
-        3 => object == 0,
-        4 => object_alone(low, high, object),
-        5 => object_alone(low, high, object),
-        6 => object == 0,
+        TABLE_KIND => object_alone(low, high, object),
+        DIRECTORY_KIND => object < SLOT_COUNT_U32,
+        MEMORY_KIND => object == 0,
+        PROCESS_KIND => object_alone(low, high, object),
+        ENDPOINT_KIND => object_alone(low, high, object),
+        FUNCTION_KIND => object == 0,
         _ => false,
     }
 }
@@ -45,19 +64,19 @@ fn frost_clean(mark: u32, stamp: u32) -> bool
 }
 
 // A blank entry is eight zero words.
-pub fn place_stands(p: &[u8], at: usize) -> bool
-    requires { ⌜ at + 32 ≤ length (now p) ⌝ }
+pub(crate) fn place_stands(p: &[u8], at: usize) -> bool
+    requires { ⌜ at + entrySize ≤ length (now p) ⌝ }
     ensures { λ r. ⌜ r ≡ placeStands (now (p .entry)) at ⌝ }
 {
     let kind = word_in(p, at);
-    if kind == 0 {
-        return zeros_in(p, at + 4, 7);
+    if kind == BLANK {
+        return zeros_in(p, at + FLAGS_AT, WORDS_BEHIND);
     }
-    let low = word_in(p, at + 8);
-    let high = word_in(p, at + 12);
-    let object = word_in(p, at + 16);
+    let low = word_in(p, at + LOW_AT);
+    let high = word_in(p, at + HIGH_AT);
+    let object = word_in(p, at + OBJECT_AT);
     if !kind_clean(kind, low, high, object) {
         return false;
     }
-    frost_clean(word_in(p, at + 20), word_in(p, at + 24))
+    frost_clean(word_in(p, at + FROZEN_AT), word_in(p, at + STAMP_AT))
 }

@@ -8,6 +8,8 @@ ghost use Rattle.words.specs.Sizes.{entrySize, slotSize, slotsFor};
 ghost use Rattle.words.specs.Tests.{allBelow};
 use crate::places::place_stands;
 use crate::zeros::zeros_in;
+use words::layout::ENTRY_WORDS;
+use words::sizes::ENTRY_SIZE;
 
 fn places_stand(p: &[u8], n: usize) -> bool
     requires { ⌜ entrySize * n ≤ length (now p) ⌝ }
@@ -15,7 +17,7 @@ fn places_stand(p: &[u8], n: usize) -> bool
 {
     let mut i: usize = 0;
     while i < n {
-        if !place_stands(p, 32 * i) {
+        if !place_stands(p, ENTRY_SIZE * i) {
             return false;
         }
         i += 1;
@@ -23,7 +25,7 @@ fn places_stand(p: &[u8], n: usize) -> bool
     true
 }
 
-pub fn table_stands(p: &[u8], entries: u8) -> bool
+pub(crate) fn table_stands(p: &[u8], entries: u8) -> bool
     requires { ⌜ length (now p) ≡ slotSize * slotsFor (entrySize * entries) ⌝ }
     ensures { λ r. ⌜ r ≡ starts (memoryBytes (tableIn (now (p .entry)) entries)) (now (p .entry)) ⌝ }
 {
@@ -31,5 +33,5 @@ pub fn table_stands(p: &[u8], entries: u8) -> bool
     if !places_stand(p, n) {
         return false;
     }
-    zeros_in(p, 32 * n, 8 * (n % 2))
+    zeros_in(p, ENTRY_SIZE * n, ENTRY_WORDS * (n % 2))
 }

@@ -5,16 +5,17 @@ ghost use Prim.Native.Nat.{_+_, _*_, _≤_};
 ghost use lib.ListN.{length};
 ghost use Rattle.audit_bytes.specs.Clean.{zeroWords};
 use audit_entries::word_in;
+use words::layout::WORD_SIZE;
 
 // Whether n words from a byte on are zero.
-pub fn zeros_in(s: &[u8], at: usize, n: usize) -> bool
+pub(crate) fn zeros_in(s: &[u8], at: usize, n: usize) -> bool
     requires { ⌜ at + 4 * n ≤ length (now s) ⌝ }
     ensures { λ r. ⌜ r ≡ zeroWords (now (s .entry)) at n ⌝ }
 {
     let mut seen: u32 = 0;
     let mut i: usize = 0;
     while i < n {
-        seen |= word_in(s, at + 4 * i);
+        seen |= word_in(s, at + WORD_SIZE * i);
         i += 1;
     }
     seen == 0

@@ -1,11 +1,12 @@
--- What the words of an entry say of its chain; and that in a laid-out state the place of number x stands at byte 32·x.
+-- What the words of an entry say of its chain; and that in a laid-out state the place of number x stands at byte 32·x, in slot x / 2.
 use mathlib.Core.Bool.{Bool, false, false≢true, true}
 use mathlib.Core.List.{List}
 use mathlib.Core.Logic.{_⊎_, ⊎-elim}
-use mathlib.Core.Path.{ap, refl, _∙_, _≡_}
-use Prim.Native.Nat.{_*_, _+_, _-_, _/_, _<_, suc, zero, ℕ, _≤_}
+use mathlib.Core.Path.{ap, refl, sym, _∙_, _≡_}
+use Prim.Native.Nat.{_%_, _*_, _+_, _-_, _/_, _<_, suc, zero, ℕ, _≤_}
 use native.Mathlib.Omega.{arith}
 use lib.Dec.{ltb}
+use lib.ListN.{drop, length, length-drop, length-take, take}
 use borrow.Author.Tests.{eq-eqb, ltb-false, ltb-true, ne-eqb}
 use Rattle.audit_entries.proofs.Entries.{place-cases}
 use Rattle.rules.proofs.Inside.{blank-past}
@@ -13,12 +14,13 @@ use Rattle.rules.specs.Chains.{codeOf, originCode}
 use Rattle.rules.specs.WellFormed.{everyPlace, right}
 use Rattle.state.proofs.Bodies.{first-le}
 use Rattle.state.proofs.Look.{place-known, place-past}
+use Rattle.state.proofs.Parts.{word-part}
 use Rattle.state.specs.Layout.{Laid}
 use Rattle.state.specs.Read.{originFrom, placeOf, read, wordAt}
 use Rattle.state.specs.State.{State, entriesIn, firstOf, objAt, placeNumbered}
 use Rattle.words.proofs.Tests.{all-at}
 use Rattle.words.specs.Fields.{slot}
-use Rattle.words.specs.Sizes.{placeCount, slotCount}
+use Rattle.words.specs.Sizes.{entrySize, placeCount, slotCount, slotSize, stateLength}
 use Rattle.audit_chains.specs.Chains.{Ready, codes, holds, under}
 use Rattle.audit_chains.specs.Names.{Blank, Holds, Origin, Place, Root, Slot, Under}
 
@@ -93,9 +95,19 @@ module _ (b : List ℕ) (w : Laid (read b)) (x : ℕ) (there : holds (placeNumbe
       let here : 64 * tableOf .0 + 32 * (x - 2 * tableOf .0) ≡ 32 * x = omega (arith, low) in
       place-known b tableOf (x - 2 * tableOf .0) (omega (arith, low, numbered-small)) numbered-entry ∙ ap (placeOf b) here
 
-  pub numbered-code : codes (read b) x ≡ wordAt b (32 * x + 28) + 1
+  -- the one slot in which it stands, which has its parent word
+  abbrev slotPart : List ℕ
+  slotPart = take slotSize (drop (slotSize * (x / 2)) b)
+
+  pub numbered-room : length b ≡ stateLength → entrySize * (x % 2) + 28 + 4 ≤ length slotPart
+  numbered-room long = simp (length-take, length-drop) (omega (arith, numbered-small))
+
+  pub numbered-code : codes (read b) x ≡ wordAt slotPart (entrySize * (x % 2) + 28) + 1
   unfolding codes
-  numbered-code = ap codeOf numbered-at ∙ entry-code b (32 * x) (rw numbered-at at there)
+  numbered-code =
+      let here : slotSize * (x / 2) + (entrySize * (x % 2) + 28) ≡ 32 * x + 28 = omega arith in
+      let inside = word-part b (slotSize * (x / 2)) slotSize (entrySize * (x % 2) + 28) (omega arith) ∙ ap (wordAt b) here in
+      ap codeOf numbered-at ∙ entry-code b (32 * x) (rw numbered-at at there) ∙ ap (λ (w : ℕ). w + 1) (sym inside)
 
 -- ---- a standing place's parent stands
 parent-stands : (st : State) (q : ℕ) (p : Place) → right (λ c. under st (c .origin)) p ≡ true → codeOf p ≡ q + 2 → holds (placeNumbered st q) ≡ true

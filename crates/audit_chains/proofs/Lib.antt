@@ -1,3 +1,4 @@
 pub mod Walk
 pub mod Entry
 pub mod Table
+pub mod Tight

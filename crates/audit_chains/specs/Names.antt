@@ -2,6 +2,5 @@
 pub use Rattle.words.specs.declared.numbers.Slot.{Slot}
 pub use Rattle.words.specs.declared.capabilities.Origin.{Origin}
 pub use Rattle.words.specs.declared.capabilities.Origin.the-variants.{Root, Under}
-pub use Rattle.words.specs.declared.capabilities.Capability.{Capability}
 pub use Rattle.words.specs.declared.capabilities.Place.{Place}
 pub use Rattle.words.specs.declared.capabilities.Place.the-variants.{Blank, Holds}

@@ -1,7 +1,7 @@
 -- The list as its loop makes it: none at first, a slot that is none, a slot that is one, and the free slots at the end.
 use mathlib.Core.Bool.{Bool, true}
 use mathlib.Core.List.{List}
-use mathlib.Core.Path.{ap, ap₂, refl, sym, _∙_, _≡_}
+use mathlib.Core.Path.{ap, ap₂, refl, _∙_, _≡_}
 use Prim.Native.Nat.{_+_, _-_, _<_, suc, ℕ, _≤_}
 use native.Mathlib.Nat.{le-step, lt-suc-self}
 use native.Mathlib.Omega.{arith}

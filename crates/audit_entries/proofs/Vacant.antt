@@ -13,7 +13,7 @@ use Rattle.words.proofs.Tests.{all-at, all-of}
 use Rattle.words.specs.Fields.{slot}
 use Rattle.words.specs.Sizes.{memoryLength, slotCount}
 use Rattle.words.specs.Tests.{allBelow}
-use Rattle.audit_entries.specs.Vacant.{Vacant}
+use Rattle.audit_entries.specs.Vacant.{Used, Vacant}
 
 module _ (b : List ℕ) (n : ℕ) (v : Vacant b n) where
   pub vacant-tag : (k : ℕ) → n ≤ k → k < slotCount → tagByte b k ≡ 0
@@ -41,3 +41,17 @@ vacant-more b n some v e = record { few = omega (arith, v .few); blank = λ k h 
     go : (k : ℕ) → n - 1 ≤ k → k < slotCount → (z : Bool) → ltb k n ≡ z → wordAt b (memoryLength + 4 * k) ≡ 0
     go k h l true q = let last : memoryLength + 4 * k ≡ 16380 + 4 * n = omega (arith, ltb-true k n q) in ap (wordAt b) last ∙ e
     go k h l false q = v .blank k (ltb-false k n q) l
+
+-- the search ends at a note that is not zeros, or at none
+pub used-at : (b : List ℕ) (n : ℕ) → 0 < n → Vacant b n → (wordAt b (16380 + 4 * n) ≡ 0 → ⊥) → Used b n
+used-at b n some v e = record { vacant = v; least = λ m w. go m w (ltb m n) refl }
+  where
+    go : (m : ℕ) → Vacant b m → (z : Bool) → ltb m n ≡ z → n ≤ m
+    go m w true q =
+        let l : m < n = ltb-true m n q in
+        let last : 16380 + 4 * n ≡ memoryLength + 4 * (n - 1) = omega arith in
+        absurd (e (ap (wordAt b) last ∙ w .blank (n - 1) (omega arith) (omega (arith, v .few))))
+    go m w false q = ltb-false m n q
+
+pub used-same : (b : List ℕ) (m n : ℕ) → Used b m → Used b n → m ≡ n
+used-same b m n u w = omega (arith, u .least n (w .vacant), w .least m (u .vacant))

@@ -8,3 +8,8 @@ use Rattle.words.specs.Sizes.{memoryLength, slotCount}
 pub record Vacant (b : List ℕ) (n : ℕ) : Type 0 where
   pub few : n ≤ slotCount
   pub blank : (k : ℕ) → n ≤ k → k < slotCount → wordAt b (memoryLength + 4 * k) ≡ 0
+
+-- how many slots are used: the least number behind which every note is zeros
+pub record Used (b : List ℕ) (n : ℕ) : Type 0 where
+  pub vacant : Vacant b n
+  pub least : (m : ℕ) → Vacant b m → n ≤ m

@@ -10,13 +10,19 @@ ghost use lib.ListN.{length, take, drop};
 ghost use Rattle.words.specs.Sizes.{slotSize, entrySize, placeCount, slotsFor};
 ghost use Rattle.state.specs.Read.{wordAt};
 use reading::bytes::slots_from;
+use words::fields::BYTE;
+use words::fields::HALF;
+use words::fields::THREE_BYTES;
 use words::numbers::Slot;
+use words::sizes::ENTRY_SIZE_U32;
+use words::sizes::SLOT_REST_U32;
+use words::sizes::SLOT_SIZE_U32;
 
 // Four bytes, the lowest first.
 fn joined(a: u8, b: u8, c: u8, d: u8) -> u32
     ensures { λ r. ⌜ r ≡ Rattle.state.specs.Read.joined a b c d ⌝ }
 {
-    (a as u32) + (b as u32) * 256 + (c as u32) * 65536 + (d as u32) * 16777216
+    (a as u32) + (b as u32) * BYTE + (c as u32) * HALF + (d as u32) * THREE_BYTES
 }
 
 // A word where the part has it.
@@ -32,5 +38,9 @@ pub fn table_slots(s: &[u8], t: Slot, n: u32) -> &[u8]
     requires { ⌜ n ≤ placeCount ⌝ }
     ensures { λ r. ⌜ now r ≡ take (slotSize * slotsFor (entrySize * n)) (drop (slotSize * t .0) (now (s .entry))) ⌝ }
 {
-    slots_from(s, t, ((32 * n + 63) / 64) as u16)
+    slots_from(
+        s,
+        t,
+        ((ENTRY_SIZE_U32 * n + SLOT_REST_U32) / SLOT_SIZE_U32) as u16,
+    )
 }

@@ -10,6 +10,7 @@ ghost use Rattle.words.specs.Sizes.{stateLength};
 use crate::sizes::size_at;
 use audit_entries::notes::argument_in;
 use audit_entries::notes::tag_in;
+use words::layout::LATER_TAG;
 use words::numbers::Slot;
 
 // Whether the object that stands at `first` goes on in slot k.
@@ -17,7 +18,7 @@ fn goes_on(s: &[u8], first: Slot, k: Slot) -> bool
     requires { ⌜ length (now s) ≡ stateLength ⌝ }
     ensures { λ r. ⌜ r ≡ goesOn first (objAt (read (now (s .entry))) k) ⌝ }
 {
-    if tag_in(s, k) != 1 {
+    if tag_in(s, k) != LATER_TAG {
         return false;
     }
     argument_in(s, k) == first.0

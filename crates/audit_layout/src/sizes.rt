@@ -7,7 +7,18 @@ ghost use Rattle.words.specs.Sizes.{stateLength};
 use audit_entries::notes::argument_in;
 use audit_entries::notes::tag_in;
 use reading::directories::positions_in;
+use words::layout::DIRECTORY_TAG;
+use words::layout::FREE_TAG;
+use words::layout::LATER_TAG;
+use words::layout::TABLE_TAG;
 use words::numbers::Slot;
+use words::sizes::ENTRY_SIZE_U16;
+use words::sizes::HEADER_SIZE_U32;
+use words::sizes::POSITION_SIZE_U32;
+use words::sizes::SLOT_REST_U16;
+use words::sizes::SLOT_REST_U32;
+use words::sizes::SLOT_SIZE_U16;
+use words::sizes::SLOT_SIZE_U32;
 
 // The slots of what stands in a slot, as its note tells; none where an object goes on. Most slots are free.
 pub fn size_at(s: &[u8], k: Slot) -> u16
@@ -15,13 +26,14 @@ pub fn size_at(s: &[u8], k: Slot) -> u16
     ensures { λ r. ⌜ r ≡ sizeOf (objAt (read (now (s .entry))) k) ⌝ }
 {
     let tag = tag_in(s, k);
-    if tag == 0 {
+    if tag == FREE_TAG {
         return 1;
     }
     match tag {
-        1 => 0,
-        2 => (32 * (argument_in(s, k) as u16) + 63) / 64,
-        3 => ((32 + 8 * positions_in(s, k) + 63) / 64) as u16,
+        LATER_TAG => 0,
+        TABLE_TAG => (ENTRY_SIZE_U16 * (argument_in(s, k) as u16) + SLOT_REST_U16) / SLOT_SIZE_U16,
+        DIRECTORY_TAG => ((HEADER_SIZE_U32 + POSITION_SIZE_U32 * positions_in(s, k) + SLOT_REST_U32)
+            / SLOT_SIZE_U32) as u16,
         _ => 1,
     }
 }

@@ -16,7 +16,24 @@ use reading::directories::positions_in;
 use reading::directories::shape_at;
 use reading::notes::tag_at;
 use words::capabilities::Geometry;
+use words::flag_bits::PAGE_FLAGS_U8;
+use words::layout::CHILD;
+use words::layout::DIRECTORY_TAG;
+use words::layout::PAGE;
+use words::layout::POSITION_FLAGS_AT;
+use words::layout::POSITION_VALUE_AT;
 use words::numbers::Slot;
+use words::sizes::HEADER_SIZE;
+use words::sizes::HEADER_SIZE_U32;
+use words::sizes::LEAST_NUMBER_ORDER;
+use words::sizes::LEAST_SIZE_ORDER;
+use words::sizes::MOST_NUMBER_ORDER;
+use words::sizes::MOST_ORDER_SUM;
+use words::sizes::MOST_SIZE_ORDER;
+use words::sizes::POSITION_SIZE;
+use words::sizes::POSITION_SIZE_U32;
+use words::sizes::SLOT_REST_U32;
+use words::sizes::SLOT_SIZE_U32;
 
 // "size order 6..31, number order 1..8, sum at most 32, start a multiple of 2^sum"
 fn geometry_ok(g: Geometry) -> bool
@@ -24,19 +41,19 @@ fn geometry_ok(g: Geometry) -> bool
 {
     let size = g.size;
     let number = g.number;
-    if size < 6 {
+    if size < LEAST_SIZE_ORDER {
         return false;
     }
-    if 31 < size {
+    if MOST_SIZE_ORDER < size {
         return false;
     }
-    if number < 1 {
+    if number < LEAST_NUMBER_ORDER {
         return false;
     }
-    if 8 < number {
+    if MOST_NUMBER_ORDER < number {
         return false;
     }
-    if 32 < size + number {
+    if MOST_ORDER_SUM < size + number {
         return false;
     }
     is_multiple(g.start, size + number)
@@ -46,7 +63,7 @@ fn geometry_ok(g: Geometry) -> bool
 fn child_ok(s: &[u8], g: Geometry, o: Slot) -> bool
     ensures { λ r. ⌜ r ≡ hangs g (objAt (read (now (s .entry))) o) ⌝ }
 {
-    if tag_at(s, o) != 3 {
+    if tag_at(s, o) != DIRECTORY_TAG {
         return false;
     }
     let c = shape_at(s, o);
@@ -58,21 +75,21 @@ fn child_ok(s: &[u8], g: Geometry, o: Slot) -> bool
 
 // The position that starts at a byte of a part. Of an empty one the first byte is all that is read.
 fn position_ok(s: &[u8], g: Geometry, p: &[u8], at: usize) -> bool
-    requires { ⌜ (at + 8 ≤ length (now p)) × (g .size ≤ 31) ⌝ }
+    requires { ⌜ (at + positionSize ≤ length (now p)) × (g .size ≤ 31) ⌝ }
     ensures { λ r. ⌜ r ≡ positionOk (read (now (s .entry))) g (positionOf (now (p .entry)) at) ⌝ }
 {
     let tag = p[at];
-    if tag == 1 {
-        if !is_multiple(word_in(p, at + 4), g.size) {
+    if tag == PAGE {
+        if !is_multiple(word_in(p, at + POSITION_VALUE_AT), g.size) {
             return false;
         }
-        return p[at + 1] <= 63;
+        return p[at + POSITION_FLAGS_AT] <= PAGE_FLAGS_U8;
     }
-    if tag == 2 {
-        if !child_ok(s, g, Slot(p[at + 4])) {
+    if tag == CHILD {
+        if !child_ok(s, g, Slot(p[at + POSITION_VALUE_AT])) {
             return false;
         }
-        return p[at + 1] <= 63;
+        return p[at + POSITION_FLAGS_AT] <= PAGE_FLAGS_U8;
     }
     true
 }
@@ -83,7 +100,7 @@ fn positions_ok(s: &[u8], g: Geometry, p: &[u8], n: usize) -> bool
 {
     let mut i: usize = 0;
     while i < n {
-        if !position_ok(s, g, p, 32 + 8 * i) {
+        if !position_ok(s, g, p, HEADER_SIZE + POSITION_SIZE * i) {
             return false;
         }
         i += 1;
@@ -91,7 +108,7 @@ fn positions_ok(s: &[u8], g: Geometry, p: &[u8], n: usize) -> bool
     true
 }
 
-pub fn directory_ok(s: &[u8], k: Slot) -> bool
+pub(crate) fn directory_ok(s: &[u8], k: Slot) -> bool
     requires { ⌜ (length (now s) ≡ stateLength) × (apart (read (now s)) ≡ true) × (tagOf (objAt (read (now s)) k) ≡ 3) ⌝ }
     ensures { λ r. ⌜ r ≡ objectOk (read (now (s .entry))) k (objAt (read (now (s .entry))) k) ⌝ }
 {
@@ -100,6 +117,10 @@ pub fn directory_ok(s: &[u8], k: Slot) -> bool
         return false;
     }
     let n = positions_in(s, k);
-    let part = slots_from(s, k, ((32 + 8 * n + 63) / 64) as u16);
+    let part = slots_from(
+        s,
+        k,
+        ((HEADER_SIZE_U32 + POSITION_SIZE_U32 * n + SLOT_REST_U32) / SLOT_SIZE_U32) as u16,
+    );
     positions_ok(s, g, part, n as usize)
 }

@@ -14,7 +14,12 @@ use reading::notes::tag_at;
 use reading::processes::directory_named;
 use reading::processes::table_named;
 use reading::tables::entries_in;
+use words::layout::DIRECTORY_TAG;
+use words::layout::PROCESS_TAG;
+use words::layout::TABLE_TAG;
 use words::numbers::Slot;
+use words::sizes::MOST_ENTRIES;
+use words::sizes::SLOT_COUNT;
 
 // "table of 1..64 entries"
 fn table_ok(s: &[u8], k: Slot) -> bool
@@ -25,7 +30,7 @@ fn table_ok(s: &[u8], k: Slot) -> bool
     if n < 1 {
         return false;
     }
-    n <= 64
+    n <= MOST_ENTRIES
 }
 
 // "a process names a live table and a live top directory"
@@ -33,7 +38,7 @@ fn process_ok(s: &[u8], k: Slot) -> bool
     requires { ⌜ tagOf (objAt (read (now s)) k) ≡ 4 ⌝ }
     ensures { λ r. ⌜ r ≡ objectOk (read (now (s .entry))) k (objAt (read (now (s .entry))) k) ⌝ }
 {
-    if tag_at(s, table_named(s, k)) != 2 {
+    if tag_at(s, table_named(s, k)) != TABLE_TAG {
         return false;
     }
     let g = shape_at(s, directory_named(s, k));
@@ -46,15 +51,15 @@ fn object_ok(s: &[u8], k: Slot) -> bool
 {
     let tag = tag_at(s, k);
     match tag {
-        2 => table_ok(s, k),
-        3 => directory_ok(s, k),
-        4 => process_ok(s, k),
+        TABLE_TAG => table_ok(s, k),
+        DIRECTORY_TAG => directory_ok(s, k),
+        PROCESS_TAG => process_ok(s, k),
         _ => true,
     }
 }
 
 // What is not among the n listed slots is free or goes on.
-pub fn objects_ok(s: &[u8], heads: &[u8; 256], n: usize) -> bool
+pub fn objects_ok(s: &[u8], heads: &[u8; SLOT_COUNT], n: usize) -> bool
     requires { ⌜ (length (now s) ≡ stateLength) × (apart (read (now s)) ≡ true) × Heads (now s) (now heads) n slotCount ⌝ }
     ensures { λ r. ⌜ r ≡ everyObject (read (now (s .entry))) (objectOk (read (now (s .entry)))) ⌝ }
 {

@@ -4,7 +4,7 @@ ghost use Prim.Native.Nat.{_%_, _^_, _≤_};
 ghost use lib.Dec.{eqb};
 
 // Whether x is a multiple of 2^k. The power of 32 does not fit a word.
-pub fn is_multiple(x: u32, k: u32) -> bool
+pub(crate) fn is_multiple(x: u32, k: u32) -> bool
     requires { ⌜ k ≤ 32 ⌝ }
     ensures { λ r. ⌜ r ≡ eqb (x % 2 ^ k) 0 ⌝ }
 {

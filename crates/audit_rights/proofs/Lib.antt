@@ -1,4 +1,4 @@
 pub mod Standing
 pub mod Compared
 pub mod Walked
-pub mod Joined
+pub mod Tight

@@ -4,7 +4,7 @@ pub use Rattle.words.specs.declared.numbers.KernelAddress.{KernelAddress}
 pub use Rattle.words.specs.declared.capabilities.Kind.{Kind}
 pub use Rattle.words.specs.declared.capabilities.Kind.the-variants.{Table, Directory, Memory, Process, Endpoint, Function}
 pub use Rattle.words.specs.declared.capabilities.Frost.{Frost}
-pub use Rattle.words.specs.declared.capabilities.Frost.the-variants.{Thawed, Frozen}
+pub use Rattle.words.specs.declared.capabilities.Frost.the-variants.{Thawed}
 pub use Rattle.words.specs.declared.capabilities.Origin.{Origin}
 pub use Rattle.words.specs.declared.capabilities.Origin.the-variants.{Root, Under}
 pub use Rattle.words.specs.declared.capabilities.Capability.{Capability}

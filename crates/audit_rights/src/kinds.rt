@@ -5,6 +5,7 @@ ghost use Prim.Native.Nat.{_+_, _≤_};
 ghost use lib.Dec.{eqb, ltb};
 ghost use lib.ListN.{getD, length};
 ghost use Rattle.words.specs.Fields.{slot};
+ghost use Rattle.words.specs.Sizes.{entrySize};
 ghost use Rattle.words.specs.Tests.{_&_};
 ghost use Rattle.state.specs.Read.{read, wordAt};
 ghost use Rattle.rules.specs.WellFormed.{endsOk, names, whole};
@@ -13,30 +14,51 @@ use audit_entries::word_in;
 use reading::directories::positions_in;
 use reading::notes::tag_at;
 use words::capabilities::Kind;
+use words::layout::DIRECTORY_KIND;
+use words::layout::ENDPOINT_KIND;
+use words::layout::ENDPOINT_TAG;
+use words::layout::HIGH_AT;
+use words::layout::LOW_AT;
+use words::layout::MEMORY_KIND;
+use words::layout::OBJECT_AT;
+use words::layout::PROCESS_KIND;
+use words::layout::PROCESS_TAG;
+use words::layout::TABLE_KIND;
+use words::layout::TABLE_TAG;
 use words::numbers::KernelAddress;
 use words::numbers::Slot;
+use words::sizes::FUNCTION_COUNT;
+use words::sizes::KERNEL_END;
+use words::sizes::KERNEL_START;
+use words::sizes::LAST_FUNCTION;
+use words::sizes::SLOT_SIZE_U32;
+
+// The high ends of the whole ranges, in the width in which they are compared.
+const KERNEL_END_U64: u64 = KERNEL_END as u64;
+
+const LAST_FUNCTION_U64: u64 = LAST_FUNCTION as u64;
 
 // The kind of the entry that starts at a byte of a part, by its number.
-pub fn kind_in(p: &[u8], at: usize, number: u32) -> Kind
-    requires { ⌜ at + 32 ≤ length (now p) ⌝ }
+pub(crate) fn kind_in(p: &[u8], at: usize, number: u32) -> Kind
+    requires { ⌜ at + entrySize ≤ length (now p) ⌝ }
     ensures { λ r. ⌜ r ≡ kindFrom number (slot (getD (now (p .entry)) (at + 16) 0)) (wordAt (now (p .entry)) (at + 8)) (wordAt (now (p .entry)) (at + 12)) ⌝ }
 {
     match number {
-        1 => Kind::Table(Slot(p[at + 16])),
-        2 => Kind::Directory {
-            object: Slot(p[at + 16]),
-            low: word_in(p, at + 8),
-            high: word_in(p, at + 12),
+        TABLE_KIND => Kind::Table(Slot(p[at + OBJECT_AT])),
+        DIRECTORY_KIND => Kind::Directory {
+            object: Slot(p[at + OBJECT_AT]),
+            low: word_in(p, at + LOW_AT),
+            high: word_in(p, at + HIGH_AT),
         },
-        3 => Kind::Memory {
-            low: KernelAddress(word_in(p, at + 8)),
-            high: KernelAddress(word_in(p, at + 12)),
+        MEMORY_KIND => Kind::Memory {
+            low: KernelAddress(word_in(p, at + LOW_AT)),
+            high: KernelAddress(word_in(p, at + HIGH_AT)),
         },
-        4 => Kind::Process(Slot(p[at + 16])),
-        5 => Kind::Endpoint(Slot(p[at + 16])),
+        PROCESS_KIND => Kind::Process(Slot(p[at + OBJECT_AT])),
+        ENDPOINT_KIND => Kind::Endpoint(Slot(p[at + OBJECT_AT])),
         _ => Kind::Function {
-            low: word_in(p, at + 8),
-            high: word_in(p, at + 12),
+            low: word_in(p, at + LOW_AT),
+            high: word_in(p, at + HIGH_AT),
         },
     }
 }
@@ -65,39 +87,39 @@ fn memory_ends(low: KernelAddress, high: KernelAddress) -> bool
 {
     let l = low.0;
     let h = high.0;
-    if l < 0x20000000 {
+    if l < KERNEL_START {
         return false;
     }
-    if 0x20004000 <= l {
+    if KERNEL_END <= l {
         return false;
     }
-    if l % 64 != 0 {
+    if l % SLOT_SIZE_U32 != 0 {
         return false;
     }
-    if h < 0x20000000 {
+    if h < KERNEL_START {
         return false;
     }
-    if 0x20004000 < h {
+    if KERNEL_END < h {
         return false;
     }
-    h % 64 == 0
+    h % SLOT_SIZE_U32 == 0
 }
 
 // What has positions is a directory, so its range needs no test of the tag.
-pub fn stands(s: &[u8], kind: Kind) -> bool
+pub(crate) fn stands(s: &[u8], kind: Kind) -> bool
     ensures { λ r. ⌜ r ≡ (names (read (now (s .entry))) kind & endsOk (read (now (s .entry))) kind) ⌝ }
 {
     match kind {
-        Kind::Table(o) => tag_at(s, o) == 2,
+        Kind::Table(o) => tag_at(s, o) == TABLE_TAG,
         Kind::Directory { object, low, high } => both_below(low, high, positions_in(s, object)),
         Kind::Memory { low, high } => memory_ends(low, high),
-        Kind::Process(o) => tag_at(s, o) == 4,
-        Kind::Endpoint(o) => tag_at(s, o) == 5,
-        Kind::Function { low, high } => both_below(low, high, 65536),
+        Kind::Process(o) => tag_at(s, o) == PROCESS_TAG,
+        Kind::Endpoint(o) => tag_at(s, o) == ENDPOINT_TAG,
+        Kind::Function { low, high } => both_below(low, high, FUNCTION_COUNT),
     }
 }
 
-pub fn is_whole(s: &[u8], kind: Kind) -> bool
+pub(crate) fn is_whole(s: &[u8], kind: Kind) -> bool
     ensures { λ r. ⌜ r ≡ whole (read (now (s .entry))) kind ⌝ }
 {
     match kind {
@@ -108,9 +130,9 @@ pub fn is_whole(s: &[u8], kind: Kind) -> bool
             0,
             positions_in(s, object) as u64,
         ),
-        Kind::Memory { low, high } => both_are(low.0, high.0 as u64, 0x20000000, 0x20004000),
+        Kind::Memory { low, high } => both_are(low.0, high.0 as u64, KERNEL_START, KERNEL_END_U64),
         Kind::Process(_) => true,
         Kind::Endpoint(_) => true,
-        Kind::Function { low, high } => both_are(low, high as u64, 0, 65535),
+        Kind::Function { low, high } => both_are(low, high as u64, 0, LAST_FUNCTION_U64),
     }
 }

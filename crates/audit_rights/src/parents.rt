@@ -2,19 +2,26 @@
 ghost use mathlib.Core.Path.{_≡_};
 ghost use Prim.Native.Nat.{_+_, _*_, _-_, _≤_};
 ghost use lib.ListN.{length};
-ghost use Rattle.words.specs.Sizes.{stateLength};
+ghost use Rattle.words.specs.Sizes.{entrySize, stateLength};
 ghost use Rattle.state.specs.Read.{placeOf, read};
 ghost use Rattle.state.specs.State.{placeNumbered};
 ghost use Rattle.rules.specs.WellFormed.{parentFits};
 ghost use Rattle.audit_rights.specs.ByWords.{insideWords};
 ghost use Rattle.audit_rights.specs.ButChain.{bare};
 ghost use Rattle.audit_rights.specs.Names.{Root};
+use audit_entries::table_slots;
 use audit_entries::word_in;
 use reading::notes::first_at;
 use reading::tables::entries_in;
 use words::capabilities::Kind;
 use words::kinds::kind_number;
+use words::layout::FLAGS_AT;
+use words::layout::HIGH_AT;
+use words::layout::LOW_AT;
+use words::layout::OBJECT_AT;
 use words::numbers::Slot;
+use words::sizes::ENTRY_SIZE;
+use words::sizes::PLACE_COUNT_U32;
 
 // Whether a kind lies inside one of the same number, with these words.
 fn inside_words(kind: Kind, object: u8, low: u32, high: u32) -> bool
@@ -52,18 +59,23 @@ fn inside_words(kind: Kind, object: u8, low: u32, high: u32) -> bool
     }
 }
 
-// Whether the entry that starts at a byte fits as parent.
+// Whether the entry that starts at a byte of a part fits as parent.
 fn parent_fits(s: &[u8], at: usize, kind: Kind, flags: u32) -> bool
-    requires { ⌜ at + 32 ≤ length (now s) ⌝ }
+    requires { ⌜ at + entrySize ≤ length (now s) ⌝ }
     ensures { λ r. ⌜ r ≡ parentFits (bare kind flags Root) (placeOf (now (s .entry)) at) ⌝ }
 {
     if kind_number(kind) != word_in(s, at) {
         return false;
     }
-    if !inside_words(kind, s[at + 16], word_in(s, at + 8), word_in(s, at + 12)) {
+    if !inside_words(
+        kind,
+        s[at + OBJECT_AT],
+        word_in(s, at + LOW_AT),
+        word_in(s, at + HIGH_AT),
+    ) {
         return false;
     }
-    let whole = word_in(s, at + 4);
+    let whole = word_in(s, at + FLAGS_AT);
     flags & whole == flags
 }
 
@@ -78,19 +90,20 @@ fn entry_of(p: u32, t: Slot) -> u32
     p - first
 }
 
-// Whether the place of number p fits as parent. There are 512 numbers.
-pub fn parent_ok(s: &[u8], kind: Kind, flags: u32, p: u32) -> bool
+// Whether the place of number p fits as parent: its table's slots are handed on, and its entry is read in them.
+pub(crate) fn parent_ok(s: &[u8], kind: Kind, flags: u32, p: u32) -> bool
     requires { ⌜ length (now s) ≡ stateLength ⌝ }
     ensures { λ r. ⌜ r ≡ parentFits (bare kind flags Root) (placeNumbered (read (now (s .entry))) p) ⌝ }
 {
-    if 512 <= p {
+    if PLACE_COUNT_U32 <= p {
         return false;
     }
     let t = first_at(s, Slot((p / 2) as u8));
     let e = entry_of(p, t);
-    if entries_in(s, t) <= e {
+    let n = entries_in(s, t);
+    if n <= e {
         return false;
     }
-    let o = t.0 as usize;
-    parent_fits(s, 64 * o + 32 * (e as usize), kind, flags)
+    let part = table_slots(s, t, n);
+    parent_fits(part, ENTRY_SIZE * (e as usize), kind, flags)
 }

@@ -19,7 +19,13 @@ use audit_entries::word_in;
 use reading::tables::entries_in;
 use words::capabilities::Kind;
 use words::kinds::all_flags;
+use words::layout::BLANK;
+use words::layout::FLAGS_AT;
+use words::layout::FUNCTION_KIND;
+use words::layout::PARENT_AT;
 use words::numbers::Slot;
+use words::sizes::ENTRY_SIZE;
+use words::sizes::SLOT_COUNT;
 
 // A root has "all its flags and whole range"; the parent's word is 0 for a root, else the parent's place number and 1.
 fn descent_ok(s: &[u8], kind: Kind, flags: u32, parent: u32) -> bool
@@ -48,20 +54,26 @@ fn right_ok(s: &[u8], kind: Kind, flags: u32, parent: u32) -> bool
     descent_ok(s, kind, flags, parent)
 }
 
-// The entry that starts at a byte of a part. Of a blank one the first word is all that is read.
+// The entry that starts at a byte of a part. Of a blank one the first word is all that is read; the kind of a function is the last, and what
+// has a greater number is blank too.
 fn entry_ok(s: &[u8], p: &[u8], at: usize) -> bool
-    requires { ⌜ (length (now s) ≡ stateLength) × (at + 32 ≤ length (now p)) ⌝ }
+    requires { ⌜ (length (now s) ≡ stateLength) × (at + entrySize ≤ length (now p)) ⌝ }
     ensures { λ r. ⌜ r ≡ right (rightButChain (read (now (s .entry)))) (placeOf (now (p .entry)) at) ⌝ }
 {
     let number = word_in(p, at);
-    if number == 0 {
+    if number == BLANK {
         return true;
     }
-    if 6 < number {
+    if FUNCTION_KIND < number {
         return true;
     }
     let kind = kind_in(p, at, number);
-    right_ok(s, kind, word_in(p, at + 4), word_in(p, at + 28))
+    right_ok(
+        s,
+        kind,
+        word_in(p, at + FLAGS_AT),
+        word_in(p, at + PARENT_AT),
+    )
 }
 
 fn entries_ok(s: &[u8], p: &[u8], n: usize) -> bool
@@ -70,7 +82,7 @@ fn entries_ok(s: &[u8], p: &[u8], n: usize) -> bool
 {
     let mut e: usize = 0;
     while e < n {
-        if !entry_ok(s, p, 32 * e) {
+        if !entry_ok(s, p, ENTRY_SIZE * e) {
             return false;
         }
         e += 1;
@@ -91,7 +103,7 @@ fn table_ok(s: &[u8], t: Slot) -> bool
 }
 
 // Every table is among the n listed slots.
-pub fn rights_ok(s: &[u8], heads: &[u8; 256], n: usize) -> bool
+pub fn rights_ok(s: &[u8], heads: &[u8; SLOT_COUNT], n: usize) -> bool
     requires { ⌜ (length (now s) ≡ stateLength) × (apart (read (now s)) ≡ true) × Heads (now s) (now heads) n slotCount ⌝ }
     ensures { λ r. ⌜ r ≡ everyPlace (read (now (s .entry))) (right (rightButChain (read (now (s .entry))))) ⌝ }
 {

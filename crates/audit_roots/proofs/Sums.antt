@@ -1,5 +1,5 @@
 -- Sums of counts: at most so much a term.
-use Prim.Native.Nat.{_*_, _+_, _<_, suc, zero, ℕ, _≤_}
+use Prim.Native.Nat.{_*_, _<_, suc, zero, ℕ, _≤_}
 use native.Mathlib.Nat.{le-step, lt-suc-self, mul-suc}
 use native.Mathlib.Omega.{arith}
 use Rattle.words.specs.Tests.{sumBelow}

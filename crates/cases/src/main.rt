@@ -3,6 +3,8 @@ use kernel::calls::kernel_call;
 use kernel::states::kernel_boot;
 use kernel::states::kernel_tick;
 use libc::STDOUT_FILENO;
+use words::sizes::SLOT_SIZE;
+use words::sizes::STATE_LENGTH;
 
 fn say(text: &[u8]) {
     io::write_all(STDOUT_FILENO, text);
@@ -19,17 +21,17 @@ fn case(text: &[u8], got: i32, wanted: i32, shown: &[u8]) {
     say(b"\n");
 }
 
-fn boot(s: &mut [u8; 17472]) {
+fn boot(s: &mut [u8; STATE_LENGTH]) {
     if kernel_boot(s) != 0 {
         say(b"boot refused\n");
     }
 }
 
-fn call(s: &mut [u8; 17472], w0: u32, w1: u32, w2: u32, w3: u32) -> i32 {
+fn call(s: &mut [u8; STATE_LENGTH], w0: u32, w1: u32, w2: u32, w3: u32) -> i32 {
     kernel_call(s, 18, w0, w1, w2, w3)
 }
 
-fn ticks(s: &mut [u8; 17472], n: u32) {
+fn ticks(s: &mut [u8; STATE_LENGTH], n: u32) {
     let mut i: u32 = 0;
     while i < n {
         if kernel_tick(s) != 0 {
@@ -40,7 +42,7 @@ fn ticks(s: &mut [u8; 17472], n: u32) {
 }
 
 // "An endpoint through it at place 7, each alone: 0x200007C0 is 0, 0x20000800 is −5": the grant of SIG on 0x20000400 to below 0x20000800.
-fn granted(s: &mut [u8; 17472]) {
+fn granted(s: &mut [u8; STATE_LENGTH]) {
     boot(s);
     case(b"grant: ", call(s, 0x08030410, 6, 4, 0x20002000), 0, b"0");
     case(
@@ -60,7 +62,7 @@ fn granted(s: &mut [u8; 17472]) {
 }
 
 // "Frozen at tick t: delete at t+7 is −8, at t+8 passes to REFCNT": the boot directory's root, which the boot process uses.
-fn frozen(s: &mut [u8; 17472]) {
+fn frozen(s: &mut [u8; STATE_LENGTH]) {
     boot(s);
     case(
         b"freeze the directory's root: ",
@@ -84,16 +86,24 @@ fn frozen(s: &mut [u8; 17472]) {
     );
 }
 
-// The boot endpoint's count, the first word of slot 19.
-fn fill_count(s: &mut [u8; 17472]) {
-    s[1216] = 255;
-    s[1217] = 255;
-    s[1218] = 255;
-    s[1219] = 255;
+// The boot endpoint's count, the first word of slot 19, byte by byte.
+const COUNT_0: usize = 19 * SLOT_SIZE;
+
+const COUNT_1: usize = COUNT_0 + 1;
+
+const COUNT_2: usize = COUNT_0 + 2;
+
+const COUNT_3: usize = COUNT_0 + 3;
+
+fn fill_count(s: &mut [u8; STATE_LENGTH]) {
+    s[COUNT_0] = 255;
+    s[COUNT_1] = 255;
+    s[COUNT_2] = 255;
+    s[COUNT_3] = 255;
 }
 
 // "Count 2^32−1, NM: 2147483647, leaving 2147483648."
-fn full(s: &mut [u8; 17472]) {
+fn full(s: &mut [u8; STATE_LENGTH]) {
     boot(s);
     fill_count(s);
     case(
@@ -108,7 +118,7 @@ fn full(s: &mut [u8; 17472]) {
         2147483647,
         b"2147483647",
     );
-    if s[1219] == 128 {
+    if s[COUNT_3] == 128 {
         say(b"left: 2147483648\n");
     }
     case(
@@ -122,7 +132,7 @@ fn full(s: &mut [u8; 17472]) {
 }
 
 fn main() {
-    let mut s = [0u8; 17472];
+    let mut s = [0u8; STATE_LENGTH];
     granted(&mut s);
     frozen(&mut s);
     full(&mut s);

@@ -2,3 +2,4 @@ pub mod Standing
 pub mod Ready
 pub mod Sizes
 pub mod Laws
+pub mod Tight

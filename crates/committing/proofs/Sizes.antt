@@ -5,7 +5,7 @@ use Prim.Native.Nat.{ℕ, _+_, _*_, _<_}
 use native.Mathlib.Decide.{decLt}
 use native.Mathlib.Omega.{arith}
 use lib.ListN.{length}
-use Rattle.words.specs.Sizes.{slotCount, slotsFor}
+use Rattle.words.specs.Sizes.{slotCount, entrySize, headerSize, positionSize, slotsFor}
 use Rattle.state.specs.State.{Object, free, body, table, directory, process, endpoint, sizeOf, placesOf, positionsOf, objAt}
 use Rattle.state.specs.Bytes.{tagOf}
 use Rattle.state.specs.Read.{read}
@@ -20,7 +20,7 @@ part-size (directory g es) h = absurd (omega arith)
 part-size (process t d) h = absurd (omega arith)
 part-size (endpoint c b) h = absurd (omega arith)
 
-table-size : (o : Object) → tagOf o ≡ 2 → sizeOf o ≡ slotsFor (32 * length (placesOf o))
+table-size : (o : Object) → tagOf o ≡ 2 → sizeOf o ≡ slotsFor (entrySize * length (placesOf o))
 table-size free h = absurd (omega arith)
 table-size (body f) h = absurd (omega arith)
 table-size (table ps) h = refl
@@ -28,7 +28,7 @@ table-size (directory g es) h = absurd (omega arith)
 table-size (process t d) h = absurd (omega arith)
 table-size (endpoint c b) h = absurd (omega arith)
 
-pub directory-size : (o : Object) → tagOf o ≡ 3 → sizeOf o ≡ slotsFor (32 + 8 * length (positionsOf o))
+pub directory-size : (o : Object) → tagOf o ≡ 3 → sizeOf o ≡ slotsFor (headerSize + positionSize * length (positionsOf o))
 directory-size free h = absurd (omega arith)
 directory-size (body f) h = absurd (omega arith)
 directory-size (table ps) h = absurd (omega arith)
@@ -52,5 +52,5 @@ module _ (b : List ℕ) (t : Slot) (ht : t .0 < slotCount) where
     | no n ↦ omega (arith, tag-known b t ht (omega arith))
   ]
 
-  pub table-there : tagOf (objAt (read b) t) ≡ 2 → sizeOf (objAt (read b) t) ≡ slotsFor (32 * argumentByte b (t .0))
+  pub table-there : tagOf (objAt (read b) t) ≡ 2 → sizeOf (objAt (read b) t) ≡ slotsFor (entrySize * argumentByte b (t .0))
   table-there h = rw (← entries-known b t ht (note-tag h)) (table-size (objAt (read b) t) h)

@@ -15,7 +15,7 @@ use writing::endpoints::store_count;
 use writing::processes::store_directory_named;
 use writing::processes::store_table_named;
 
-pub fn commit_set_position(s: &mut [u8], directory: Slot, position: u32, to: Position)
+pub(crate) fn commit_set_position(s: &mut [u8], directory: Slot, position: u32, to: Position)
     requires { ⌜ sound (now s) ≡ true ⌝ }
     requires { ⌜ Ready (read (now s)) (SetPosition directory position to) ⌝ }
     ensures { λ _. ⌜ now (s .exit) ≡ bytes (commit (read (now (s .entry))) (SetPosition directory position to)) ⌝ }
@@ -23,7 +23,7 @@ pub fn commit_set_position(s: &mut [u8], directory: Slot, position: u32, to: Pos
     store_position(s, directory, position, to);
 }
 
-pub fn commit_change_table(s: &mut [u8], process: Slot, table: Slot)
+pub(crate) fn commit_change_table(s: &mut [u8], process: Slot, table: Slot)
     requires { ⌜ sound (now s) ≡ true ⌝ }
     requires { ⌜ Ready (read (now s)) (ChangeTable process table) ⌝ }
     ensures { λ _. ⌜ now (s .exit) ≡ bytes (commit (read (now (s .entry))) (ChangeTable process table)) ⌝ }
@@ -31,7 +31,7 @@ pub fn commit_change_table(s: &mut [u8], process: Slot, table: Slot)
     store_table_named(s, process, table);
 }
 
-pub fn commit_change_directory(s: &mut [u8], process: Slot, directory: Slot)
+pub(crate) fn commit_change_directory(s: &mut [u8], process: Slot, directory: Slot)
     requires { ⌜ sound (now s) ≡ true ⌝ }
     requires { ⌜ Ready (read (now s)) (ChangeDirectory process directory) ⌝ }
     ensures { λ _. ⌜ now (s .exit) ≡ bytes (commit (read (now (s .entry))) (ChangeDirectory process directory)) ⌝ }
@@ -40,7 +40,7 @@ pub fn commit_change_directory(s: &mut [u8], process: Slot, directory: Slot)
 }
 
 // What a receipt takes is its answer, and leaves no trace in the state.
-pub fn commit_set_count(s: &mut [u8], endpoint: Slot, count: Count, taken: Count)
+pub(crate) fn commit_set_count(s: &mut [u8], endpoint: Slot, count: Count, taken: Count)
     requires { ⌜ sound (now s) ≡ true ⌝ }
     requires { ⌜ Ready (read (now s)) (SetCount endpoint count taken) ⌝ }
     ensures { λ _. ⌜ now (s .exit) ≡ bytes (commit (read (now (s .entry))) (SetCount endpoint count taken)) ⌝ }

@@ -3,6 +3,7 @@ ghost use mathlib.Core.Bool.{true};
 ghost use mathlib.Core.Path.{_≡_};
 ghost use Prim.Native.Nat.{_+_, _*_, _^_, _≤_};
 ghost use lib.ListN.{length};
+ghost use Rattle.words.specs.Sizes.{slotSize, memoryLength, entrySize};
 ghost use Rattle.words.specs.Rights.{rootRight};
 ghost use Rattle.words.specs.declared.actions.Action.the-variants.{CreateTable, CreateDirectory, CreateProcess, CreateEndpoint};
 ghost use Rattle.state.specs.Bytes.{bytes};
@@ -19,7 +20,16 @@ use words::capabilities::Kind;
 use words::capabilities::Origin;
 use words::capabilities::Place;
 use words::kinds::all_flags;
+use words::layout::DIRECTORY_TAG;
+use words::layout::ENDPOINT_TAG;
+use words::layout::PROCESS_TAG;
+use words::layout::TABLE_TAG;
 use words::numbers::Slot;
+use words::sizes::ENTRY_SIZE_U32;
+use words::sizes::HEADER_SIZE_U32;
+use words::sizes::POSITION_SIZE_U32;
+use words::sizes::SLOT_REST_U32;
+use words::sizes::SLOT_SIZE_U32;
 use writing::notes::store_notes;
 use writing::slots::fill_slots;
 use writing::tables::store_place;
@@ -47,10 +57,10 @@ fn root_right(k: Kind) -> Capability
 
 // The object in its slots from `first` on, and its root.
 fn raise(s: &mut [u8], at: Spot, first: Slot, kind: Kind, new: Beginning)
-    requires { ⌜ 16384 + 4 * first .0 + 4 * new .slots ≤ length (now s) ⌝ }
-    requires { ⌜ 64 * first .0 + 64 * new .slots ≤ length (now s) ⌝ }
+    requires { ⌜ memoryLength + 4 * first .0 + 4 * new .slots ≤ length (now s) ⌝ }
+    requires { ⌜ slotSize * first .0 + slotSize * new .slots ≤ length (now s) ⌝ }
     requires { ⌜ 1 ≤ new .slots ⌝ }
-    requires { ⌜ 64 * at .table .0 + 32 * at .entry + 32 ≤ length (now s) ⌝ }
+    requires { ⌜ slotSize * at .table .0 + entrySize * at .entry + entrySize ≤ length (now s) ⌝ }
     ensures { λ _. ⌜ now (s .exit) ≡ raised (now (s .entry)) at first kind new ⌝ }
 {
     store_notes(s, first, new.slots, new.tag, new.argument);
@@ -60,14 +70,14 @@ fn raise(s: &mut [u8], at: Spot, first: Slot, kind: Kind, new: Beginning)
 }
 
 // "entries·32 bytes, rounded up to slots"; every entry is blank.
-pub fn commit_create_table(s: &mut [u8], at: Spot, first: Slot, entries: u32)
+pub(crate) fn commit_create_table(s: &mut [u8], at: Spot, first: Slot, entries: u32)
     requires { ⌜ sound (now s) ≡ true ⌝ }
     requires { ⌜ Ready (read (now s)) (CreateTable at first entries) ⌝ }
     ensures { λ _. ⌜ now (s .exit) ≡ bytes (commit (read (now (s .entry))) (CreateTable at first entries)) ⌝ }
 {
     let new = Beginning {
-        slots: (32 * entries + 63) / 64,
-        tag: 2,
+        slots: (ENTRY_SIZE_U32 * entries + SLOT_REST_U32) / SLOT_SIZE_U32,
+        tag: TABLE_TAG,
         argument: entries as u8,
         a: 0,
         b: 0,
@@ -95,15 +105,15 @@ fn positions_for(k: u32) -> u32
 }
 
 // "(32 + 8·2^k) bytes, rounded up"; "a directory's root ranges over exactly its positions".
-pub fn commit_create_directory(s: &mut [u8], at: Spot, first: Slot, shape: Geometry)
+pub(crate) fn commit_create_directory(s: &mut [u8], at: Spot, first: Slot, shape: Geometry)
     requires { ⌜ sound (now s) ≡ true ⌝ }
     requires { ⌜ Ready (read (now s)) (CreateDirectory at first shape) ⌝ }
     ensures { λ _. ⌜ now (s .exit) ≡ bytes (commit (read (now (s .entry))) (CreateDirectory at first shape)) ⌝ }
 {
     let positions = positions_for(shape.number);
     let new = Beginning {
-        slots: (32 + 8 * positions + 63) / 64,
-        tag: 3,
+        slots: (HEADER_SIZE_U32 + POSITION_SIZE_U32 * positions + SLOT_REST_U32) / SLOT_SIZE_U32,
+        tag: DIRECTORY_TAG,
         argument: shape.number as u8,
         a: shape.size,
         b: mark(shape.top),
@@ -117,14 +127,20 @@ pub fn commit_create_directory(s: &mut [u8], at: Spot, first: Slot, shape: Geome
     raise(s, at, first, kind, new);
 }
 
-pub fn commit_create_process(s: &mut [u8], at: Spot, first: Slot, table: Slot, directory: Slot)
+pub(crate) fn commit_create_process(
+    s: &mut [u8],
+    at: Spot,
+    first: Slot,
+    table: Slot,
+    directory: Slot,
+)
     requires { ⌜ sound (now s) ≡ true ⌝ }
     requires { ⌜ Ready (read (now s)) (CreateProcess at first table directory) ⌝ }
     ensures { λ _. ⌜ now (s .exit) ≡ bytes (commit (read (now (s .entry))) (CreateProcess at first table directory)) ⌝ }
 {
     let new = Beginning {
         slots: 1,
-        tag: 4,
+        tag: PROCESS_TAG,
         argument: 0,
         a: table.0 as u32,
         b: directory.0 as u32,
@@ -134,14 +150,14 @@ pub fn commit_create_process(s: &mut [u8], at: Spot, first: Slot, table: Slot, d
 }
 
 // No signal waits, and the boot mark is 0: "a mark that no call sets".
-pub fn commit_create_endpoint(s: &mut [u8], at: Spot, first: Slot)
+pub(crate) fn commit_create_endpoint(s: &mut [u8], at: Spot, first: Slot)
     requires { ⌜ sound (now s) ≡ true ⌝ }
     requires { ⌜ Ready (read (now s)) (CreateEndpoint at first) ⌝ }
     ensures { λ _. ⌜ now (s .exit) ≡ bytes (commit (read (now (s .entry))) (CreateEndpoint at first)) ⌝ }
 {
     let new = Beginning {
         slots: 1,
-        tag: 5,
+        tag: ENDPOINT_TAG,
         argument: 0,
         a: 0,
         b: 0,

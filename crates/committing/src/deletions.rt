@@ -13,24 +13,34 @@ use reading::notes::argument_byte;
 use reading::notes::tag_at;
 use words::actions::Spot;
 use words::capabilities::Place;
+use words::layout::DIRECTORY_TAG;
+use words::layout::LATER_TAG;
+use words::layout::TABLE_TAG;
 use words::numbers::Slot;
+use words::sizes::ENTRY_SIZE_U32;
+use words::sizes::HEADER_SIZE_U32;
+use words::sizes::POSITION_SIZE_U32;
+use words::sizes::SLOT_REST_U32;
+use words::sizes::SLOT_SIZE_U32;
 use writing::notes::clear_notes;
 use writing::slots::clear_slots;
 use writing::tables::store_place;
 
 // How many slots the object in a slot takes, as its note tells; none where an object goes on.
-pub fn size_at(s: &[u8], o: Slot) -> u32
+fn size_at(s: &[u8], o: Slot) -> u32
     ensures { λ r. ⌜ r ≡ sizeOf (objAt (read (now (s .entry))) o) ⌝ }
 {
     match tag_at(s, o) {
-        1 => 0,
-        2 => (32 * (argument_byte(s, o) as u32) + 63) / 64,
-        3 => (32 + 8 * positions_in(s, o) + 63) / 64,
+        LATER_TAG => 0,
+        TABLE_TAG => (ENTRY_SIZE_U32 * (argument_byte(s, o) as u32) + SLOT_REST_U32)
+            / SLOT_SIZE_U32,
+        DIRECTORY_TAG => (HEADER_SIZE_U32 + POSITION_SIZE_U32 * positions_in(s, o) + SLOT_REST_U32)
+            / SLOT_SIZE_U32,
         _ => 1,
     }
 }
 
-pub fn commit_delete(s: &mut [u8], at: Spot, object: Slot)
+pub(crate) fn commit_delete(s: &mut [u8], at: Spot, object: Slot)
     requires { ⌜ sound (now s) ≡ true ⌝ }
     requires { ⌜ Ready (read (now s)) (Delete at object) ⌝ }
     ensures { λ _. ⌜ now (s .exit) ≡ bytes (commit (read (now (s .entry))) (Delete at object)) ⌝ }

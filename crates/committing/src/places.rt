@@ -15,7 +15,7 @@ use words::capabilities::Frost;
 use words::capabilities::Place;
 use writing::tables::store_place;
 
-pub fn commit_fill(s: &mut [u8], at: Spot, right: Capability)
+pub(crate) fn commit_fill(s: &mut [u8], at: Spot, right: Capability)
     requires { ⌜ sound (now s) ≡ true ⌝ }
     requires { ⌜ Ready (read (now s)) (Fill at right) ⌝ }
     ensures { λ _. ⌜ now (s .exit) ≡ bytes (commit (read (now (s .entry))) (Fill at right)) ⌝ }
@@ -44,7 +44,7 @@ fn frozen(p: Place, stamp: u32) -> Place
 }
 
 // The stamp is the clock.
-pub fn commit_freeze(s: &mut [u8], at: Spot)
+pub(crate) fn commit_freeze(s: &mut [u8], at: Spot)
     requires { ⌜ sound (now s) ≡ true ⌝ }
     requires { ⌜ Ready (read (now s)) (Freeze at) ⌝ }
     ensures { λ _. ⌜ now (s .exit) ≡ bytes (commit (read (now (s .entry))) (Freeze at)) ⌝ }
@@ -54,7 +54,7 @@ pub fn commit_freeze(s: &mut [u8], at: Spot)
     store_place(s, t, at.entry, p);
 }
 
-pub fn commit_remove(s: &mut [u8], at: Spot)
+pub(crate) fn commit_remove(s: &mut [u8], at: Spot)
     requires { ⌜ sound (now s) ≡ true ⌝ }
     requires { ⌜ Ready (read (now s)) (Remove at) ⌝ }
     ensures { λ _. ⌜ now (s .exit) ≡ bytes (commit (read (now (s .entry))) (Remove at)) ⌝ }

@@ -1,11 +1,14 @@
 // An answer as a number and, where asked for, in words.
+use crate::out::OUT_LENGTH;
 use crate::out::put;
 use crate::out::put_byte;
 use crate::out::put_decimal;
 use lines::counts::count_of;
+use words::calls::FUNCTION;
+use words::calls::RECEIVE;
 
 fn put_row(
-    out: &mut [u8; 8192],
+    out: &mut [u8; OUT_LENGTH],
     used: usize,
     number: &[u8],
     meaning: &[u8],
@@ -19,7 +22,7 @@ fn put_row(
 }
 
 // Document 01's table "Refusals by number, and when".
-fn put_refusal(out: &mut [u8; 8192], used: usize, n: i32, in_words: bool) -> usize {
+fn put_refusal(out: &mut [u8; OUT_LENGTH], used: usize, n: i32, in_words: bool) -> usize {
     match n {
         -1 => put_row(
             out,
@@ -158,15 +161,21 @@ fn put_refusal(out: &mut [u8; 8192], used: usize, n: i32, in_words: bool) -> usi
 }
 
 // "Success is 0, or a non-negative count": what is counted depends on the call.
-fn put_meaning(out: &mut [u8; 8192], used: usize, call: u32) -> usize {
+fn put_meaning(out: &mut [u8; OUT_LENGTH], used: usize, call: u32) -> usize {
     match call {
-        19 => put(out, used, b" done: the signals taken"),
-        20 => put(out, used, b" done: the clock mod 2^31"),
+        RECEIVE => put(out, used, b" done: the signals taken"),
+        FUNCTION => put(out, used, b" done: the clock mod 2^31"),
         _ => put(out, used, b" done"),
     }
 }
 
-fn put_success(out: &mut [u8; 8192], used: usize, n: i32, call: u32, in_words: bool) -> usize {
+fn put_success(
+    out: &mut [u8; OUT_LENGTH],
+    used: usize,
+    n: i32,
+    call: u32,
+    in_words: bool,
+) -> usize {
     let u = put_decimal(out, used, count_of(n) as u64);
     if !in_words {
         return u;
@@ -175,7 +184,13 @@ fn put_success(out: &mut [u8; 8192], used: usize, n: i32, call: u32, in_words: b
 }
 
 // The answer n to the call of that number; a tick has none, and 0 stands for it.
-pub fn put_answer(out: &mut [u8; 8192], used: usize, n: i32, call: u32, in_words: bool) -> usize {
+pub(crate) fn put_answer(
+    out: &mut [u8; OUT_LENGTH],
+    used: usize,
+    n: i32,
+    call: u32,
+    in_words: bool,
+) -> usize {
     if n < 0 {
         let u = put_refusal(out, used, n, in_words);
         return put_byte(out, u, b'\n');

@@ -1,15 +1,16 @@
 // What is wrong with a line, and what a right one looks like.
+use crate::out::OUT_LENGTH;
 use crate::out::put;
 use crate::out::put_byte;
 use crate::out::put_decimal;
 use lines::requests::Fault;
 
-fn put_word_number(out: &mut [u8; 8192], used: usize, k: u32) -> usize {
+fn put_word_number(out: &mut [u8; OUT_LENGTH], used: usize, k: u32) -> usize {
     let u = put(out, used, b"word ");
     put_decimal(out, u, k as u64)
 }
 
-fn put_reason(out: &mut [u8; 8192], used: usize, f: Fault) -> usize {
+fn put_reason(out: &mut [u8; OUT_LENGTH], used: usize, f: Fault) -> usize {
     match f {
         Fault::AfterBoot => put(out, used, b"boot takes nothing after it"),
         Fault::AfterShow => put(out, used, b"show takes nothing after it"),
@@ -38,19 +39,19 @@ fn put_reason(out: &mut [u8; 8192], used: usize, f: Fault) -> usize {
     }
 }
 
-fn put_line_number(out: &mut [u8; 8192], used: usize, number: u64) -> usize {
+fn put_line_number(out: &mut [u8; OUT_LENGTH], used: usize, number: u64) -> usize {
     let u = put(out, used, b"? line ");
     let u = put_decimal(out, u, number);
     put(out, u, b": ")
 }
 
-pub fn put_fault(out: &mut [u8; 8192], used: usize, number: u64, f: Fault) -> usize {
+pub(crate) fn put_fault(out: &mut [u8; OUT_LENGTH], used: usize, number: u64, f: Fault) -> usize {
     let u = put_line_number(out, used, number);
     let u = put_reason(out, u, f);
     put_byte(out, u, b'\n')
 }
 
-pub fn put_long_line(out: &mut [u8; 8192], used: usize, number: u64) -> usize {
+pub(crate) fn put_long_line(out: &mut [u8; OUT_LENGTH], used: usize, number: u64) -> usize {
     let u = put_line_number(out, used, number);
     put(out, u, b"longer than 1024 bytes\n")
 }

@@ -8,14 +8,20 @@ mod show;
 mod steps;
 
 use crate::faults::put_long_line;
+use crate::out::OUT_LENGTH;
 use crate::out::flush;
 use crate::steps::boot;
 use crate::steps::step;
 use libc::STDERR_FILENO;
 use libc::STDIN_FILENO;
+use lines::gather::LINE_LENGTH;
 use lines::gather::first;
 use lines::gather::gather;
 use lines::requests::request_in;
+use words::sizes::STATE_LENGTH;
+
+// How much is read at a time.
+const CHUNK_LENGTH: usize = 4096;
 
 // How far the input has been read: the bytes of the line that is not yet ended (1,025 stands for any more than 1,024), the lines
 // before it, and how much waits to be printed.
@@ -27,14 +33,14 @@ struct Progress {
 
 // The line that ends here; answers how much waits to be printed.
 fn end_line(
-    s: &mut [u8; 17472],
+    s: &mut [u8; STATE_LENGTH],
     line: &[u8],
     p: Progress,
     in_words: bool,
-    out: &mut [u8; 8192],
+    out: &mut [u8; OUT_LENGTH],
 ) -> usize {
     let number = std::num::wrapping_add_u64(p.lines, 1);
-    if 1024 < p.length {
+    if LINE_LENGTH < p.length {
         return put_long_line(out, p.used, number);
     }
     let r = request_in(first(line, p.length));
@@ -42,12 +48,12 @@ fn end_line(
 }
 
 fn take_byte(
-    s: &mut [u8; 17472],
-    line: &mut [u8; 1024],
+    s: &mut [u8; STATE_LENGTH],
+    line: &mut [u8; LINE_LENGTH],
     p: Progress,
     byte: u8,
     in_words: bool,
-    out: &mut [u8; 8192],
+    out: &mut [u8; OUT_LENGTH],
 ) -> Progress {
     let g = gather(line, p.length, byte);
     if !g.ended {
@@ -66,12 +72,12 @@ fn take_byte(
 }
 
 fn take_bytes(
-    s: &mut [u8; 17472],
-    line: &mut [u8; 1024],
+    s: &mut [u8; STATE_LENGTH],
+    line: &mut [u8; LINE_LENGTH],
     p: Progress,
     bytes: &[u8],
     in_words: bool,
-    out: &mut [u8; 8192],
+    out: &mut [u8; OUT_LENGTH],
 ) -> Progress {
     let mut now = p;
     for i in 0..bytes.len() {
@@ -88,13 +94,13 @@ struct Turn {
 
 // Reads what there is, does its lines and writes what they print before it waits again, so that a person sees each answer at once.
 fn read_once(
-    s: &mut [u8; 17472],
-    line: &mut [u8; 1024],
+    s: &mut [u8; STATE_LENGTH],
+    line: &mut [u8; LINE_LENGTH],
     p: Progress,
     in_words: bool,
-    out: &mut [u8; 8192],
+    out: &mut [u8; OUT_LENGTH],
 ) -> Turn {
-    let mut chunk = [0u8; 4096];
+    let mut chunk = [0u8; CHUNK_LENGTH];
     let got = libc::read(STDIN_FILENO, &mut chunk);
     let n = io::count(got, &chunk);
     if n == 0 {
@@ -117,7 +123,12 @@ fn read_once(
 }
 
 // A proved loop has to end, and nothing says that the input does: the turns are counted down from a number that no run uses up.
-fn run(s: &mut [u8; 17472], line: &mut [u8; 1024], in_words: bool, out: &mut [u8; 8192]) {
+fn run(
+    s: &mut [u8; STATE_LENGTH],
+    line: &mut [u8; LINE_LENGTH],
+    in_words: bool,
+    out: &mut [u8; OUT_LENGTH],
+) {
     let mut p = Progress {
         length: 0,
         lines: 0,
@@ -164,9 +175,9 @@ fn first_argument() -> Argument {
 }
 
 fn start(in_words: bool) {
-    let mut s = [0u8; 17472];
-    let mut line = [0u8; 1024];
-    let mut out = [0u8; 8192];
+    let mut s = [0u8; STATE_LENGTH];
+    let mut line = [0u8; LINE_LENGTH];
+    let mut out = [0u8; OUT_LENGTH];
     boot(&mut s);
     run(&mut s, &mut line, in_words, &mut out);
 }

@@ -4,8 +4,11 @@
 use libc::STDOUT_FILENO;
 use lines::gather::first;
 
-pub fn put_byte(out: &mut [u8; 8192], used: usize, byte: u8) -> usize {
-    if used < 8192 {
+// How much is gathered before it is written.
+pub(crate) const OUT_LENGTH: usize = 8192;
+
+pub(crate) fn put_byte(out: &mut [u8; OUT_LENGTH], used: usize, byte: u8) -> usize {
+    if used < OUT_LENGTH {
         out[used] = byte;
         return used + 1;
     }
@@ -14,7 +17,7 @@ pub fn put_byte(out: &mut [u8; 8192], used: usize, byte: u8) -> usize {
     1
 }
 
-pub fn put(out: &mut [u8; 8192], used: usize, text: &[u8]) -> usize {
+pub(crate) fn put(out: &mut [u8; OUT_LENGTH], used: usize, text: &[u8]) -> usize {
     let mut u = used;
     for i in 0..text.len() {
         u = put_byte(out, u, text[i]);
@@ -22,20 +25,20 @@ pub fn put(out: &mut [u8; 8192], used: usize, text: &[u8]) -> usize {
     u
 }
 
-pub fn put_decimal(out: &mut [u8; 8192], used: usize, n: u64) -> usize {
+pub(crate) fn put_decimal(out: &mut [u8; OUT_LENGTH], used: usize, n: u64) -> usize {
     let mut text = [0u8; 20];
     let k = io::decimal(n, &mut text);
     put(out, used, &text[..k])
 }
 
 // Hexadecimal of at least so many digits.
-pub fn put_hex(out: &mut [u8; 8192], used: usize, n: u64, digits: usize) -> usize {
+pub(crate) fn put_hex(out: &mut [u8; OUT_LENGTH], used: usize, n: u64, digits: usize) -> usize {
     let mut text = [0u8; 16];
     let k = io::hex(n, digits, &mut text);
     put(out, used, &text[..k])
 }
 
 // Writes what waits; nothing waits after it.
-pub fn flush(out: &[u8], used: usize) {
+pub(crate) fn flush(out: &[u8], used: usize) {
     io::write_all(STDOUT_FILENO, first(out, used));
 }

@@ -1,4 +1,5 @@
 // A right as `show` prints it: kind and object or range, flags, the frozen mark, and where it comes from.
+use crate::out::OUT_LENGTH;
 use crate::out::put;
 use crate::out::put_decimal;
 use crate::out::put_hex;
@@ -9,32 +10,39 @@ use words::capabilities::Kind;
 use words::capabilities::Origin;
 use words::numbers::KernelAddress;
 use words::numbers::Slot;
+use words::sizes::PLACE_COUNT_U32;
+use words::sizes::STATE_LENGTH;
 
-fn put_object(name: &[u8], o: Slot, out: &mut [u8; 8192], used: usize) -> usize {
+fn put_object(name: &[u8], o: Slot, out: &mut [u8; OUT_LENGTH], used: usize) -> usize {
     let u = put(out, used, name);
     put_decimal(out, u, o.0 as u64)
 }
 
-fn put_range(low: u32, high: u32, out: &mut [u8; 8192], used: usize) -> usize {
+fn put_range(low: u32, high: u32, out: &mut [u8; OUT_LENGTH], used: usize) -> usize {
     let u = put_decimal(out, used, low as u64);
     let u = put(out, u, b"..");
     put_decimal(out, u, high as u64)
 }
 
-fn put_memory(low: KernelAddress, high: KernelAddress, out: &mut [u8; 8192], used: usize) -> usize {
+fn put_memory(
+    low: KernelAddress,
+    high: KernelAddress,
+    out: &mut [u8; OUT_LENGTH],
+    used: usize,
+) -> usize {
     let u = put(out, used, b"memory ");
     let u = put_hex(out, u, low.0 as u64, 8);
     let u = put(out, u, b"..");
     put_hex(out, u, high.0 as u64, 8)
 }
 
-fn put_flags(flags: u32, out: &mut [u8; 8192], used: usize) -> usize {
+fn put_flags(flags: u32, out: &mut [u8; OUT_LENGTH], used: usize) -> usize {
     let u = put(out, used, b", flags ");
     put_hex(out, u, flags as u64, 2)
 }
 
 // A function has a range and no flags; a directory's positions stand behind its flags.
-fn put_kind(kind: Kind, flags: u32, out: &mut [u8; 8192], used: usize) -> usize {
+fn put_kind(kind: Kind, flags: u32, out: &mut [u8; OUT_LENGTH], used: usize) -> usize {
     match kind {
         Kind::Table(o) => {
             let u = put_object(b"table ", o, out, used);
@@ -65,7 +73,7 @@ fn put_kind(kind: Kind, flags: u32, out: &mut [u8; 8192], used: usize) -> usize 
     }
 }
 
-fn put_frost(frost: Frost, out: &mut [u8; 8192], used: usize) -> usize {
+fn put_frost(frost: Frost, out: &mut [u8; OUT_LENGTH], used: usize) -> usize {
     match frost {
         Frost::Thawed => used,
         Frost::Frozen(stamp) => {
@@ -76,8 +84,8 @@ fn put_frost(frost: Frost, out: &mut [u8; 8192], used: usize) -> usize {
 }
 
 // The parent's place number is twice its table's first slot and the entry; the slot that it falls into tells the table.
-fn put_parent(s: &[u8; 17472], p: u32, out: &mut [u8; 8192], used: usize) -> usize {
-    if 512 <= p {
+fn put_parent(s: &[u8; STATE_LENGTH], p: u32, out: &mut [u8; OUT_LENGTH], used: usize) -> usize {
+    if PLACE_COUNT_U32 <= p {
         return used;
     }
     let t = first_at(s, Slot((p / 2) as u8));
@@ -88,14 +96,24 @@ fn put_parent(s: &[u8; 17472], p: u32, out: &mut [u8; 8192], used: usize) -> usi
     put_decimal(out, u, std::num::wrapping_sub_u32(p, first) as u64)
 }
 
-fn put_origin(s: &[u8; 17472], origin: Origin, out: &mut [u8; 8192], used: usize) -> usize {
+fn put_origin(
+    s: &[u8; STATE_LENGTH],
+    origin: Origin,
+    out: &mut [u8; OUT_LENGTH],
+    used: usize,
+) -> usize {
     match origin {
         Origin::Root => put(out, used, b", root"),
         Origin::Under(p) => put_parent(s, p, out, used),
     }
 }
 
-pub fn put_right(s: &[u8; 17472], c: Capability, out: &mut [u8; 8192], used: usize) -> usize {
+pub(crate) fn put_right(
+    s: &[u8; STATE_LENGTH],
+    c: Capability,
+    out: &mut [u8; OUT_LENGTH],
+    used: usize,
+) -> usize {
     let kind = c.kind;
     let frost = c.frost;
     let origin = c.origin;

@@ -1,5 +1,6 @@
 // The state, a fact a line: the clock, each object by rising slot, and under tables and directories what they hold. Everything is
 // read by the readers that the judges use.
+use crate::out::OUT_LENGTH;
 use crate::out::put;
 use crate::out::put_byte;
 use crate::out::put_decimal;
@@ -18,16 +19,27 @@ use reading::tables::entries_in;
 use reading::tables::place_at;
 use words::capabilities::Place;
 use words::capabilities::Position;
+use words::layout::DIRECTORY_TAG;
+use words::layout::PROCESS_TAG;
+use words::layout::TABLE_TAG;
 use words::numbers::Slot;
+use words::sizes::SLOT_COUNT;
+use words::sizes::STATE_LENGTH;
 
 // "  3: ", the number of an entry or a position.
-fn put_number(out: &mut [u8; 8192], used: usize, i: u32) -> usize {
+fn put_number(out: &mut [u8; OUT_LENGTH], used: usize, i: u32) -> usize {
     let u = put(out, used, b"  ");
     let u = put_decimal(out, u, i as u64);
     put(out, u, b": ")
 }
 
-fn put_entry(s: &[u8; 17472], t: Slot, e: u32, out: &mut [u8; 8192], used: usize) -> usize {
+fn put_entry(
+    s: &[u8; STATE_LENGTH],
+    t: Slot,
+    e: u32,
+    out: &mut [u8; OUT_LENGTH],
+    used: usize,
+) -> usize {
     let p = place_at(s, t, e);
     let Place::Holds(c) = p else {
         return used;
@@ -37,7 +49,13 @@ fn put_entry(s: &[u8; 17472], t: Slot, e: u32, out: &mut [u8; 8192], used: usize
     put_byte(out, u, b'\n')
 }
 
-fn put_entries(s: &[u8; 17472], t: Slot, n: u32, out: &mut [u8; 8192], used: usize) -> usize {
+fn put_entries(
+    s: &[u8; STATE_LENGTH],
+    t: Slot,
+    n: u32,
+    out: &mut [u8; OUT_LENGTH],
+    used: usize,
+) -> usize {
     let mut u = used;
     for e in 0..n {
         u = put_entry(s, t, e, out, u);
@@ -45,7 +63,7 @@ fn put_entries(s: &[u8; 17472], t: Slot, n: u32, out: &mut [u8; 8192], used: usi
     u
 }
 
-fn put_table(s: &[u8; 17472], t: Slot, out: &mut [u8; 8192], used: usize) -> usize {
+fn put_table(s: &[u8; STATE_LENGTH], t: Slot, out: &mut [u8; OUT_LENGTH], used: usize) -> usize {
     let n = entries_in(s, t);
     let u = put(out, used, b"table of ");
     let u = put_decimal(out, u, n as u64);
@@ -53,25 +71,31 @@ fn put_table(s: &[u8; 17472], t: Slot, out: &mut [u8; 8192], used: usize) -> usi
     put_entries(s, t, n, out, u)
 }
 
-fn put_page(frame: u32, flags: u32, out: &mut [u8; 8192], used: usize) -> usize {
+fn put_page(frame: u32, flags: u32, out: &mut [u8; OUT_LENGTH], used: usize) -> usize {
     let u = put(out, used, b"page ");
     let u = put_hex(out, u, frame as u64, 8);
     put_page_flags(flags, out, u)
 }
 
-fn put_child(d: Slot, flags: u32, out: &mut [u8; 8192], used: usize) -> usize {
+fn put_child(d: Slot, flags: u32, out: &mut [u8; OUT_LENGTH], used: usize) -> usize {
     let u = put(out, used, b"child ");
     let u = put_decimal(out, u, d.0 as u64);
     put_page_flags(flags, out, u)
 }
 
-fn put_page_flags(flags: u32, out: &mut [u8; 8192], used: usize) -> usize {
+fn put_page_flags(flags: u32, out: &mut [u8; OUT_LENGTH], used: usize) -> usize {
     let u = put(out, used, b", flags ");
     let u = put_hex(out, u, flags as u64, 2);
     put_byte(out, u, b'\n')
 }
 
-fn put_position(s: &[u8; 17472], d: Slot, i: u32, out: &mut [u8; 8192], used: usize) -> usize {
+fn put_position(
+    s: &[u8; STATE_LENGTH],
+    d: Slot,
+    i: u32,
+    out: &mut [u8; OUT_LENGTH],
+    used: usize,
+) -> usize {
     let p = position_at(s, d, i);
     match p {
         Position::Empty => used,
@@ -86,7 +110,13 @@ fn put_position(s: &[u8; 17472], d: Slot, i: u32, out: &mut [u8; 8192], used: us
     }
 }
 
-fn put_positions(s: &[u8; 17472], d: Slot, n: u32, out: &mut [u8; 8192], used: usize) -> usize {
+fn put_positions(
+    s: &[u8; STATE_LENGTH],
+    d: Slot,
+    n: u32,
+    out: &mut [u8; OUT_LENGTH],
+    used: usize,
+) -> usize {
     let mut u = used;
     for i in 0..n {
         u = put_position(s, d, i, out, u);
@@ -94,7 +124,12 @@ fn put_positions(s: &[u8; 17472], d: Slot, n: u32, out: &mut [u8; 8192], used: u
     u
 }
 
-fn put_directory(s: &[u8; 17472], d: Slot, out: &mut [u8; 8192], used: usize) -> usize {
+fn put_directory(
+    s: &[u8; STATE_LENGTH],
+    d: Slot,
+    out: &mut [u8; OUT_LENGTH],
+    used: usize,
+) -> usize {
     let g = shape_at(s, d);
     let mut u = put(out, used, b"directory, ");
     if g.top {
@@ -110,7 +145,7 @@ fn put_directory(s: &[u8; 17472], d: Slot, out: &mut [u8; 8192], used: usize) ->
     put_positions(s, d, positions_in(s, d), out, u)
 }
 
-fn put_process(s: &[u8; 17472], p: Slot, out: &mut [u8; 8192], used: usize) -> usize {
+fn put_process(s: &[u8; STATE_LENGTH], p: Slot, out: &mut [u8; OUT_LENGTH], used: usize) -> usize {
     let t = table_named(s, p);
     let d = directory_named(s, p);
     let u = put(out, used, b"process, table ");
@@ -120,7 +155,7 @@ fn put_process(s: &[u8; 17472], p: Slot, out: &mut [u8; 8192], used: usize) -> u
     put_byte(out, u, b'\n')
 }
 
-fn put_endpoint(s: &[u8; 17472], e: Slot, out: &mut [u8; 8192], used: usize) -> usize {
+fn put_endpoint(s: &[u8; STATE_LENGTH], e: Slot, out: &mut [u8; OUT_LENGTH], used: usize) -> usize {
     let n = count_at(s, e);
     let mut u = put(out, used, b"endpoint, count ");
     u = put_decimal(out, u, n.0 as u64);
@@ -130,36 +165,38 @@ fn put_endpoint(s: &[u8; 17472], e: Slot, out: &mut [u8; 8192], used: usize) -> 
     put_byte(out, u, b'\n')
 }
 
-fn put_slot_number(k: u8, out: &mut [u8; 8192], used: usize) -> usize {
+fn put_slot_number(k: u8, out: &mut [u8; OUT_LENGTH], used: usize) -> usize {
     let u = put(out, used, b"slot ");
     let u = put_decimal(out, u, k as u64);
     put(out, u, b": ")
 }
 
 // What stands in a slot by its first one; a free slot and a later one of a larger object have no line.
-fn put_slot(s: &[u8; 17472], k: u8, out: &mut [u8; 8192], used: usize) -> usize {
+fn put_slot(s: &[u8; STATE_LENGTH], k: u8, out: &mut [u8; OUT_LENGTH], used: usize) -> usize {
     let tag = tag_at(s, Slot(k));
-    if tag < 2 {
+    if tag < TABLE_TAG {
         return used;
     }
     let u = put_slot_number(k, out, used);
     match tag {
-        2 => put_table(s, Slot(k), out, u),
-        3 => put_directory(s, Slot(k), out, u),
-        4 => put_process(s, Slot(k), out, u),
+        TABLE_TAG => put_table(s, Slot(k), out, u),
+        DIRECTORY_TAG => put_directory(s, Slot(k), out, u),
+        PROCESS_TAG => put_process(s, Slot(k), out, u),
         _ => put_endpoint(s, Slot(k), out, u),
     }
 }
 
-fn put_slots(s: &[u8; 17472], out: &mut [u8; 8192], used: usize) -> usize {
+const LAST_SLOT: u8 = (SLOT_COUNT - 1) as u8;
+
+fn put_slots(s: &[u8; STATE_LENGTH], out: &mut [u8; OUT_LENGTH], used: usize) -> usize {
     let mut u = used;
-    for k in 0..=255 {
+    for k in 0..=LAST_SLOT {
         u = put_slot(s, k, out, u);
     }
     u
 }
 
-pub fn show(s: &[u8; 17472], out: &mut [u8; 8192], used: usize) -> usize {
+pub(crate) fn show(s: &[u8; STATE_LENGTH], out: &mut [u8; OUT_LENGTH], used: usize) -> usize {
     let u = put(out, used, b"clock ");
     let u = put_decimal(out, u, clock(s) as u64);
     let u = put_byte(out, u, b'\n');

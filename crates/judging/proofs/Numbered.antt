@@ -4,7 +4,6 @@ use Prim.Native.Nat.{_+_, suc, zero, ℕ, _≤_}
 use native.Mathlib.Omega.{arith}
 use lib.ListN.{List·getD-eq-default}
 use Rattle.rules.specs.Calls.{callOf, callTable, noCall}
-use Rattle.rules.specs.WellFormed.{one}
 
 far : (n : ℕ) → 21 ≤ n → callOf n ≡ noCall
 far n h = List·getD-eq-default callTable noCall {n = n} (omega arith)

@@ -30,6 +30,26 @@ use judging_tables::remove::judge_remove;
 use words::answers::Plan;
 use words::answers::SlotAnswer;
 use words::answers::why_slot;
+use words::calls::CHANGE_DIRECTORY;
+use words::calls::CHANGE_TABLE;
+use words::calls::CONSTRUCT;
+use words::calls::CREATE_DIRECTORY;
+use words::calls::CREATE_ENDPOINT;
+use words::calls::CREATE_PROCESS;
+use words::calls::CREATE_TABLE;
+use words::calls::DELEGATE;
+use words::calls::DELETE_DIRECTORY;
+use words::calls::DELETE_ENDPOINT;
+use words::calls::DELETE_PROCESS;
+use words::calls::DELETE_TABLE;
+use words::calls::DESTRUCT;
+use words::calls::FREEZE;
+use words::calls::FUNCTION;
+use words::calls::MAP_PAGE;
+use words::calls::RECEIVE;
+use words::calls::REMOVE;
+use words::calls::REMOVE_PAGE;
+use words::calls::SEND;
 use words::fields::Words;
 use words::fields::call_number;
 use words::numbers::Slot;
@@ -42,26 +62,26 @@ fn judge_call(s: &[u8], t: Slot, w: Words) -> Plan
 {
     let n = call_number(w);
     match n {
-        1 => judge_create_table(s, t, w),
-        2 => judge_delete_table(s, t, w),
-        3 => judge_delegate(s, t, w),
-        4 => judge_freeze(s, t, w),
-        5 => judge_remove(s, t, w),
-        6 => judge_create_directory(s, t, w),
-        7 => judge_delete_directory(s, t, w),
-        8 => judge_map_page(s, t, w),
-        9 => judge_remove_page(s, t, w),
-        10 => judge_construct(s, t, w),
-        11 => judge_destruct(s, t, w),
-        12 => judge_create_process(s, t, w),
-        13 => judge_delete_process(s, t, w),
-        14 => judge_change_table(s, t, w),
-        15 => judge_change_directory(s, t, w),
-        16 => judge_create_endpoint(s, t, w),
-        17 => judge_delete_endpoint(s, t, w),
-        18 => judge_send(s, t, w),
-        19 => judge_receive(s, t, w),
-        20 => judge_function(s, t, w),
+        CREATE_TABLE => judge_create_table(s, t, w),
+        DELETE_TABLE => judge_delete_table(s, t, w),
+        DELEGATE => judge_delegate(s, t, w),
+        FREEZE => judge_freeze(s, t, w),
+        REMOVE => judge_remove(s, t, w),
+        CREATE_DIRECTORY => judge_create_directory(s, t, w),
+        DELETE_DIRECTORY => judge_delete_directory(s, t, w),
+        MAP_PAGE => judge_map_page(s, t, w),
+        REMOVE_PAGE => judge_remove_page(s, t, w),
+        CONSTRUCT => judge_construct(s, t, w),
+        DESTRUCT => judge_destruct(s, t, w),
+        CREATE_PROCESS => judge_create_process(s, t, w),
+        DELETE_PROCESS => judge_delete_process(s, t, w),
+        CHANGE_TABLE => judge_change_table(s, t, w),
+        CHANGE_DIRECTORY => judge_change_directory(s, t, w),
+        CREATE_ENDPOINT => judge_create_endpoint(s, t, w),
+        DELETE_ENDPOINT => judge_delete_endpoint(s, t, w),
+        SEND => judge_send(s, t, w),
+        RECEIVE => judge_receive(s, t, w),
+        FUNCTION => judge_function(s, t, w),
         _ => Plan::Refused(Refusal::BadCall),
     }
 }

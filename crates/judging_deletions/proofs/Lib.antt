@@ -1,3 +1,4 @@
 pub mod ChildSearch
 pub mod ChildWords
 pub mod UserSearch
+pub mod Tight

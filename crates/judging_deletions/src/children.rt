@@ -1,6 +1,6 @@
 // REFCNT, "has children": the entries of every table are searched, left at the first child found.
 ghost use mathlib.Core.Path.{_≡_};
-ghost use Prim.Native.Nat.{_*_, _<_, _≤_};
+ghost use Prim.Native.Nat.{_*_, _<_, _^_, _≤_};
 ghost use lib.ListN.{drop, take};
 ghost use Rattle.words.specs.Fields.{slot};
 ghost use Rattle.words.specs.Sizes.{entrySize, slotCount, slotSize, slotsFor};
@@ -11,7 +11,15 @@ use reading::bytes::slots_from;
 use reading::bytes::word_at;
 use reading::tables::entries_in;
 use words::actions::Spot;
+use words::layout::BLANK;
+use words::layout::FUNCTION_KIND;
+use words::layout::PARENT_AT;
 use words::numbers::Slot;
+use words::sizes::ENTRY_SIZE;
+use words::sizes::ENTRY_SIZE_U32;
+use words::sizes::SLOT_COUNT_U32;
+use words::sizes::SLOT_REST_U32;
+use words::sizes::SLOT_SIZE_U32;
 
 // The number of a place, by which a child names its parent; as wide as the sum may be, since a place is any word.
 fn place_number(p: Spot) -> u64
@@ -33,31 +41,32 @@ fn table_slots(s: &[u8], t: Slot, entries: u32) -> &[u8]
     requires { ⌜ entries ≤ 255 ⌝ }
     ensures { λ r. ⌜ now r ≡ take (slotSize * slotsFor (entrySize * entries)) (drop (slotSize * t .0) (now (s .entry))) ⌝ }
 {
-    slots_from(s, t, ((32 * entries + 63) / 64) as u16)
+    let slots = (ENTRY_SIZE_U32 * entries + SLOT_REST_U32) / SLOT_SIZE_U32;
+    slots_from(s, t, slots as u16)
 }
 
 // Entry e of the table whose slots are the part: its parent's word is the parent's place number and 1, and its kind's is 1 to 6.
 fn is_child(part: &[u8], e: u32, n: u64) -> bool
-    requires { ⌜ (e ≤ 255) × (n < 8589934592) ⌝ }
+    requires { ⌜ (e ≤ 255) × (n < 2 ^ 33) ⌝ }
     ensures { λ r. ⌜ r ≡ isChildOf n (placeOf (now (part .entry)) (entrySize * e)) ⌝ }
 {
-    let at = 32 * (e as usize);
-    if word_at(part, at + 28) as u64 != n + 1 {
+    let at = ENTRY_SIZE * (e as usize);
+    if word_at(part, at + PARENT_AT) as u64 != n + 1 {
         return false;
     }
     let kind = word_at(part, at);
-    if kind == 0 {
+    if kind == BLANK {
         return false;
     }
-    kind <= 6
+    kind <= FUNCTION_KIND
 }
 
-pub fn has_children(s: &[u8], p: Spot) -> bool
+pub(crate) fn has_children(s: &[u8], p: Spot) -> bool
     ensures { λ r. ⌜ r ≡ hasChildren (read (now (s .entry))) p ⌝ }
 {
     let n = place_number(p);
     let mut found = false;
-    'search: for k in 0..256 {
+    'search: for k in 0..SLOT_COUNT_U32 {
         let t = slot_numbered(k);
         let entries = entries_in(s, t);
         if 0 < entries {

@@ -7,12 +7,14 @@ use crate::children::slot_numbered;
 use reading::notes::tag_at;
 use reading::processes::directory_named;
 use reading::processes::table_named;
+use words::layout::PROCESS_TAG;
 use words::numbers::Slot;
+use words::sizes::SLOT_COUNT_U32;
 
 fn is_user(s: &[u8], k: Slot, o: Slot) -> bool
     ensures { λ r. ⌜ r ≡ isUserOf o (objAt (read (now (s .entry))) k) ⌝ }
 {
-    if tag_at(s, k) != 4 {
+    if tag_at(s, k) != PROCESS_TAG {
         return false;
     }
     let t = table_named(s, k);
@@ -23,11 +25,11 @@ fn is_user(s: &[u8], k: Slot, o: Slot) -> bool
     d.0 == o.0
 }
 
-pub fn has_users(s: &[u8], o: Slot) -> bool
+pub(crate) fn has_users(s: &[u8], o: Slot) -> bool
     ensures { λ r. ⌜ r ≡ hasUsers (read (now (s .entry))) o ⌝ }
 {
     let mut found = false;
-    'search: for k in 0..256 {
+    'search: for k in 0..SLOT_COUNT_U32 {
         if is_user(s, slot_numbered(k), o) {
             found = true;
             break 'search;

@@ -31,6 +31,9 @@ use words::fields::Words;
 use words::fields::address_in_word;
 use words::fields::number_in_c;
 use words::fields::number_in_d1;
+use words::fields::q1;
+use words::flag_bits::M_PGTBL;
+use words::flag_bits::T_CRT;
 use words::numbers::KernelAddress;
 use words::numbers::Slot;
 use words::refusals::Refusal;
@@ -60,15 +63,15 @@ pub fn judge_create_directory(s: &[u8], t: Slot, w: Words) -> Plan
     requires { ⌜ wf (read (now s)) ≡ true ⌝ }
     ensures { λ r. ⌜ toldPlan r ≡ createDirectory (read (now (s .entry))) t w ⌝ }
 {
-    let a = table_arg(s, t, number_in_c(w), 0);
+    let a = table_arg(s, t, number_in_c(w), T_CRT);
     let SlotAnswer::Found(c) = a else {
         return Plan::Refused(why_slot(a));
     };
-    let b = memory_arg(s, t, number_in_d1(w.p1), 1);
+    let b = memory_arg(s, t, number_in_d1(w.p1), M_PGTBL);
     let StretchAnswer::Found(m) = b else {
         return Plan::Refused(why_stretch(b));
     };
-    let l = to_fill(s, c, w.p1 % 65536 / 256);
+    let l = to_fill(s, c, q1(w));
     let SpotAnswer::Found(p) = l else {
         return Plan::Refused(why_spot(l));
     };

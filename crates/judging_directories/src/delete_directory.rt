@@ -14,13 +14,14 @@ use words::answers::SlotAnswer;
 use words::answers::why_slot;
 use words::fields::Words;
 use words::fields::number_in_c;
+use words::flag_bits::T_DEL;
 use words::numbers::Slot;
 use words::refusals::Refusal;
 
 pub fn judge_delete_directory(s: &[u8], t: Slot, w: Words) -> Plan
     ensures { λ r. ⌜ toldPlan r ≡ deleteDirectory (read (now (s .entry))) t w ⌝ }
 {
-    let a = table_arg(s, t, number_in_c(w), 1);
+    let a = table_arg(s, t, number_in_c(w), T_DEL);
     let SlotAnswer::Found(c) = a else {
         return Plan::Refused(why_slot(a));
     };

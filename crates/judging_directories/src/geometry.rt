@@ -9,16 +9,31 @@ ghost use Rattle.rules.specs.WellFormed.{geometric};
 use judging_numbers::lookups::has_flag;
 use words::capabilities::Geometry;
 use words::fields::Words;
+use words::fields::number_order;
+use words::fields::q0;
+use words::sizes::HEADER_SIZE_U32;
+use words::sizes::LEAST_NUMBER_ORDER;
+use words::sizes::LEAST_SIZE_ORDER;
+use words::sizes::MOST_NUMBER_ORDER;
+use words::sizes::MOST_ORDER_SUM;
+use words::sizes::MOST_SIZE_ORDER;
+use words::sizes::POSITION_SIZE_U32;
+use words::sizes::SLOT_REST_U32;
+use words::sizes::SLOT_SIZE_U32;
+
+// "start with top mark in bit 0"
+const TOP_MARK: u32 = 0;
 
 // "Q0 size order, N[15:8] number order, P3 start with top mark in bit 0"
-pub fn shape_asked(w: Words) -> Geometry
+pub(crate) fn shape_asked(w: Words) -> Geometry
     ensures { λ r. ⌜ r ≡ shapeAsked w ⌝ }
 {
+    let start = w.p3 / 2 * 2;
     Geometry {
-        size: w.p1 % 256,
-        number: w.nc / 65536 / 256,
-        top: has_flag(w.p3, 0),
-        start: w.p3 / 2 * 2,
+        size: q0(w),
+        number: number_order(w),
+        top: has_flag(w.p3, TOP_MARK),
+        start,
     }
 }
 
@@ -31,34 +46,34 @@ fn is_multiple(x: u32, k: u32) -> bool
     x as u64 % power == 0
 }
 
-pub fn is_geometric(g: Geometry) -> bool
+pub(crate) fn is_geometric(g: Geometry) -> bool
     ensures { λ r. ⌜ r ≡ geometric g ⌝ }
 {
     let size = g.size;
     let number = g.number;
-    if size < 6 {
+    if size < LEAST_SIZE_ORDER {
         return false;
     }
-    if 31 < size {
+    if MOST_SIZE_ORDER < size {
         return false;
     }
-    if number < 1 {
+    if number < LEAST_NUMBER_ORDER {
         return false;
     }
-    if 8 < number {
+    if MOST_NUMBER_ORDER < number {
         return false;
     }
-    if 32 < size + number {
+    if MOST_ORDER_SUM < size + number {
         return false;
     }
     is_multiple(g.start, size + number)
 }
 
 // "(32 + 8·2^k) bytes, rounded up"
-pub fn slots_taken(k: u32) -> u32
+pub(crate) fn slots_taken(k: u32) -> u32
     requires { ⌜ k ≤ 8 ⌝ }
     ensures { λ r. ⌜ (r ≡ slotsFor (headerSize + positionSize * 2 ^ k)) × (1 ≤ r) × (r ≤ 64) ⌝ }
 {
     let positions: u32 = 1 << k;
-    (32 + 8 * positions + 63) / 64
+    (HEADER_SIZE_U32 + POSITION_SIZE_U32 * positions + SLOT_REST_U32) / SLOT_SIZE_U32
 }

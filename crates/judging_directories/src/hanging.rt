@@ -13,13 +13,24 @@ use reading::directories::positions_in;
 use reading::positions::position_of;
 use words::capabilities::Position;
 use words::numbers::Slot;
+use words::sizes::HEADER_SIZE;
+use words::sizes::HEADER_SIZE_U32;
+use words::sizes::POSITION_SIZE;
+use words::sizes::POSITION_SIZE_U32;
+use words::sizes::SLOT_COUNT_U32;
+use words::sizes::SLOT_REST_U32;
+use words::sizes::SLOT_SIZE_U32;
 
 // "hands on just its slots": those of a directory with so many positions.
 fn directory_slots(s: &[u8], d: Slot, positions: u32) -> &[u8]
     requires { ⌜ positions ≤ 256 ⌝ }
     ensures { λ r. ⌜ now r ≡ take (slotSize * slotsFor (headerSize + positionSize * positions)) (drop (slotSize * d .0) (now (s .entry))) ⌝ }
 {
-    slots_from(s, d, ((32 + 8 * positions + 63) / 64) as u16)
+    slots_from(
+        s,
+        d,
+        ((HEADER_SIZE_U32 + POSITION_SIZE_U32 * positions + SLOT_REST_U32) / SLOT_SIZE_U32) as u16,
+    )
 }
 
 // Position i of the directory whose slots are the part.
@@ -27,7 +38,7 @@ fn position_in(part: &[u8], i: u32) -> Position
     requires { ⌜ i ≤ 255 ⌝ }
     ensures { λ r. ⌜ r ≡ positionOf (now (part .entry)) (headerSize + positionSize * i) ⌝ }
 {
-    position_of(part, 32 + 8 * (i as usize))
+    position_of(part, HEADER_SIZE + POSITION_SIZE * (i as usize))
 }
 
 fn holds_child(part: &[u8], i: u32) -> bool
@@ -54,7 +65,7 @@ fn holds_this(part: &[u8], i: u32, d: Slot) -> bool
     is_child_at(d, position_in(part, i))
 }
 
-pub fn has_child_directory(s: &[u8], d: Slot) -> bool
+pub(crate) fn has_child_directory(s: &[u8], d: Slot) -> bool
     ensures { λ r. ⌜ r ≡ hasChildDirectory (read (now (s .entry))) d ⌝ }
 {
     let positions = positions_in(s, d);
@@ -70,11 +81,11 @@ pub fn has_child_directory(s: &[u8], d: Slot) -> bool
 }
 
 // "A directory deleted while it hangs under another" is the slip that this search keeps out: it passes every directory.
-pub fn hangs_somewhere(s: &[u8], d: Slot) -> bool
+pub(crate) fn hangs_somewhere(s: &[u8], d: Slot) -> bool
     ensures { λ r. ⌜ r ≡ hangsSomewhere (read (now (s .entry))) d ⌝ }
 {
     let mut found = false;
-    'search: for k in 0..256 {
+    'search: for k in 0..SLOT_COUNT_U32 {
         let o = slot_numbered(k);
         let positions = positions_in(s, o);
         let part = directory_slots(s, o, positions);

@@ -1,1 +1,2 @@
 pub mod Options
+pub mod Tight

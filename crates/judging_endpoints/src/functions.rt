@@ -13,9 +13,11 @@ use words::answers::RightAnswer;
 use words::answers::why_range;
 use words::answers::why_right;
 use words::fields::Words;
+use words::fields::d0;
 use words::fields::number_in_c;
 use words::numbers::Slot;
 use words::refusals::Refusal;
+use words::sizes::ANSWER_END;
 
 pub fn judge_function(s: &[u8], t: Slot, w: Words) -> Plan
     ensures { λ r. ⌜ toldPlan r ≡ function (read (now (s .entry))) t w ⌝ }
@@ -29,7 +31,7 @@ pub fn judge_function(s: &[u8], t: Slot, w: Words) -> Plan
     let RangeAnswer::Found(f) = a else {
         return Plan::Refused(why_range(a));
     };
-    let n = w.p1 % 65536;
+    let n = d0(w.p1);
     if n < f.low {
         return Plan::Refused(Refusal::CapFlag);
     }
@@ -39,5 +41,5 @@ pub fn judge_function(s: &[u8], t: Slot, w: Words) -> Plan
     if n != 0 {
         return Plan::Refused(Refusal::CapNull);
     }
-    Plan::Do(Action::Answer(clock(s) % 0x80000000))
+    Plan::Do(Action::Answer(clock(s) % ANSWER_END))
 }

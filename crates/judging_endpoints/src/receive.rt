@@ -17,30 +17,34 @@ use words::answers::RightAnswer;
 use words::answers::SlotAnswer;
 use words::answers::why_right;
 use words::answers::why_slot;
+use words::calls::OPTION_NM;
+use words::calls::OPTION_NS;
 use words::fields::Words;
 use words::fields::number_in_word;
+use words::flag_bits::E_RCV_BS;
 use words::numbers::Count;
 use words::numbers::Slot;
 use words::refusals::Refusal;
+use words::sizes::MOST_TAKEN;
 
 // The two options that do not block.
 fn is_option(o: u32) -> bool
     ensures { λ r. ⌜ r ≡ (eqb o 2 or eqb o 3) ⌝ }
 {
-    if o == 2 {
+    if o == OPTION_NS {
         return true;
     }
-    o == 3
+    o == OPTION_NM
 }
 
 // "Receive NS takes min(1, count), NM takes min(count, 2^31−1)"
 fn most(o: u32) -> u32
     ensures { λ r. ⌜ r ≡ Calls.most o ⌝ }
 {
-    if o == 2 {
+    if o == OPTION_NS {
         return 1;
     }
-    0x7FFFFFFF
+    MOST_TAKEN
 }
 
 fn least(a: u32, b: u32) -> u32
@@ -82,7 +86,7 @@ pub fn judge_receive(s: &[u8], t: Slot, w: Words) -> Plan
     if !is_option(o) {
         return Plan::Refused(Refusal::SivAct);
     }
-    if !has_flag(c.flags, 1 + o) {
+    if !has_flag(c.flags, E_RCV_BS + o) {
         return Plan::Refused(Refusal::CapFlag);
     }
     taken(s, e, o)

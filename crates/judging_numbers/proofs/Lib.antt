@@ -1,1 +1,2 @@
 pub mod CallerTable
+pub mod Tight

@@ -1,2 +1,3 @@
--- The declared names of `words` that the proofs of this crate bring, under one roof.
+-- The declared names of `words` that the specs and proofs of this crate bring, under one roof.
+pub use Rattle.words.specs.declared.numbers.Slot.{Slot}
 pub use Rattle.words.specs.declared.refusals.Refusal.the-variants.{BadCaller}

@@ -32,7 +32,7 @@ pub fn as_table(k: Kind) -> SlotAnswer
     }
 }
 
-pub fn as_directory(k: Kind) -> SpanAnswer
+pub(crate) fn as_directory(k: Kind) -> SpanAnswer
     ensures { λ r. ⌜ toldSpan r ≡ asDirectory k ⌝ }
 {
     match k {
@@ -57,7 +57,7 @@ pub fn as_directory_object(k: Kind) -> SlotAnswer
     SlotAnswer::Found(o)
 }
 
-pub fn as_memory(k: Kind) -> StretchAnswer
+pub(crate) fn as_memory(k: Kind) -> StretchAnswer
     ensures { λ r. ⌜ toldStretch r ≡ asMemory k ⌝ }
 {
     match k {

@@ -16,7 +16,11 @@ use words::answers::why_slot;
 use words::capabilities::Place;
 use words::capabilities::place_thawed;
 use words::numbers::CapabilityNumber;
+use words::numbers::MIDDLE_UNIT;
+use words::numbers::ONE_STEP_END;
 use words::numbers::Slot;
+use words::numbers::TWO_STEP_BIT;
+use words::numbers::TWO_STEP_END;
 use words::refusals::Refusal;
 
 // Bit i of x is set.
@@ -28,7 +32,7 @@ pub fn has_flag(x: u32, i: u32) -> bool
 }
 
 // One step: RANGE, FROZEN, then TYPE for "blank where a kind is needed".
-pub fn right_at(s: &[u8], t: Slot, e: u32) -> RightAnswer
+fn right_at(s: &[u8], t: Slot, e: u32) -> RightAnswer
     ensures { λ r. ⌜ toldRight r ≡ rightAt (read (now (s .entry))) t e ⌝ }
 {
     if entries_in(s, t) <= e {
@@ -45,16 +49,17 @@ pub fn right_at(s: &[u8], t: Slot, e: u32) -> RightAnswer
 }
 
 // Two steps: the middle table is used like any other right, so that a frozen one is refused.
-fn two_step(s: &[u8], t: Slot, v: u32) -> RightAnswer
-    ensures { λ r. ⌜ toldRight r ≡ twoStep (read (now (s .entry))) t v ⌝ }
+fn two_step(s: &[u8], t: Slot, v: CapabilityNumber) -> RightAnswer
+    ensures { λ r. ⌜ toldRight r ≡ twoStep (read (now (s .entry))) t (v .0) ⌝ }
 {
-    if 32768 <= v {
+    let n = v.0;
+    if TWO_STEP_END <= n {
         return RightAnswer::Refused(Refusal::CapRange);
     }
-    if !has_flag(v, 7) {
+    if !has_flag(n, TWO_STEP_BIT) {
         return RightAnswer::Refused(Refusal::CapRange);
     }
-    let middle = right_at(s, t, v / 256);
+    let middle = right_at(s, t, n / MIDDLE_UNIT);
     let RightAnswer::Found(c) = middle else {
         return RightAnswer::Refused(why_right(middle));
     };
@@ -63,15 +68,15 @@ fn two_step(s: &[u8], t: Slot, v: u32) -> RightAnswer
     let SlotAnswer::Found(o) = table else {
         return RightAnswer::Refused(why_slot(table));
     };
-    right_at(s, o, v % 128)
+    right_at(s, o, n % ONE_STEP_END)
 }
 
 pub fn look_up(s: &[u8], t: Slot, v: CapabilityNumber) -> RightAnswer
     ensures { λ r. ⌜ toldRight r ≡ lookup (read (now (s .entry))) t v ⌝ }
 {
     let n = v.0;
-    if n < 128 {
+    if n < ONE_STEP_END {
         return right_at(s, t, n);
     }
-    two_step(s, t, n)
+    two_step(s, t, v)
 }

@@ -5,9 +5,8 @@ use Prim.Native.Nat.{_%_, _*_, _+_, _-_, _<_, _^_, ℕ, _≤_}
 use native.Mathlib.Omega.{arith}
 use lib.Dec.{ltb}
 use borrow.Author.Tests.{eqb-true, leb-true, ltb-false, ltb-true}
-use Rattle.kept.proofs.Frames.{frame-small}
-use Rattle.kept.proofs.Positions.{shaped}
 use Rattle.rules.proofs.Facts.{wf-open}
+use Rattle.rules.proofs.Pages.{frame-small, shaped}
 use Rattle.rules.specs.Calls.{asPage, isEmpty}
 use Rattle.rules.specs.WellFormed.{framed, geometric, positionOk, still, wf}
 use Rattle.state.proofs.Look.{position-past}

@@ -19,6 +19,9 @@ use words::capabilities::Span;
 use words::fields::Words;
 use words::fields::number_in_d0;
 use words::fields::number_in_d1;
+use words::flag_bits::D_CON_CHILD;
+use words::flag_bits::D_CON_PARENT;
+use words::flag_bits::PAGE_FLAGS_END;
 use words::numbers::Slot;
 use words::refusals::Refusal;
 
@@ -52,7 +55,7 @@ fn hang_under(s: &[u8], p: Span, x: Span, w: Words) -> Plan
         position: i,
         to: Position::Child {
             object: child,
-            flags: w.p3 % 64,
+            flags: w.p3 % PAGE_FLAGS_END,
         },
     })
 }
@@ -60,11 +63,11 @@ fn hang_under(s: &[u8], p: Span, x: Span, w: Words) -> Plan
 pub fn judge_construct(s: &[u8], t: Slot, w: Words) -> Plan
     ensures { λ r. ⌜ toldPlan r ≡ construct (read (now (s .entry))) t w ⌝ }
 {
-    let a = directory_arg(s, t, number_in_d1(w.p1), 4);
+    let a = directory_arg(s, t, number_in_d1(w.p1), D_CON_PARENT);
     let SpanAnswer::Found(p) = a else {
         return Plan::Refused(why_span(a));
     };
-    let b = directory_arg(s, t, number_in_d0(w.p1), 3);
+    let b = directory_arg(s, t, number_in_d0(w.p1), D_CON_CHILD);
     let SpanAnswer::Found(x) = b else {
         return Plan::Refused(why_span(b));
     };

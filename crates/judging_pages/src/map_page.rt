@@ -26,7 +26,11 @@ use words::answers::why_span;
 use words::capabilities::Position;
 use words::capabilities::Span;
 use words::fields::Words;
+use words::fields::d0;
+use words::fields::d1;
 use words::fields::number_in_d1;
+use words::flag_bits::D_ADD_DST;
+use words::flag_bits::D_ADD_SRC;
 use words::numbers::Slot;
 use words::refusals::Refusal;
 
@@ -36,8 +40,10 @@ fn map_in_range(s: &[u8], d: Span, x: Span, w: Words) -> Plan
     requires { ⌜ (wf (read (now s)) ≡ true) × (sizeAt (read (now s)) d ≤ sizeAt (read (now s)) x) × (D0 (w .p3) < 2 ^ (sizeAt (read (now s)) x - sizeAt (read (now s)) d)) ⌝ }
     ensures { λ r. ⌜ toldPlan r ≡ mapInRange (read (now (s .entry))) d x w ⌝ }
 {
-    let to = w.p1 % 65536;
-    let from = w.p2 % 65536;
+    let to = d0(w.p1);
+    let from = d0(w.p2);
+    let index = d0(w.p3);
+    let flags = d1(w.p3);
     if !in_span(d, to) {
         return Plan::Refused(Refusal::CapFlag);
     }
@@ -52,12 +58,11 @@ fn map_in_range(s: &[u8], d: Span, x: Span, w: Words) -> Plan
     if !is_empty(position_at(s, target, to)) {
         return Plan::Refused(Refusal::PgtMap);
     }
-    let flags = w.p3 / 65536;
     if flags & f.flags != flags {
         return Plan::Refused(Refusal::PgtPerm);
     }
     let g = shape_at(s, target);
-    let frame = frame_in(f.frame, w.p3 % 65536, g.size);
+    let frame = frame_in(f.frame, index, g.size);
     Plan::Do(Action::SetPosition {
         directory: target,
         position: to,
@@ -70,18 +75,21 @@ fn map_addressed(s: &[u8], d: Span, x: Span, w: Words) -> Plan
     requires { ⌜ wf (read (now s)) ≡ true ⌝ }
     ensures { λ r. ⌜ toldPlan r ≡ mapAddressed (read (now (s .entry))) d x w ⌝ }
 {
+    let to = d0(w.p1);
+    let from = d0(w.p2);
+    let index = d0(w.p3);
     let g = shape_at(s, d.object);
     let h = shape_at(s, x.object);
     if h.size < g.size {
         return Plan::Refused(Refusal::PgtAddr);
     }
-    if positions_in(s, d.object) <= w.p1 % 65536 {
+    if positions_in(s, d.object) <= to {
         return Plan::Refused(Refusal::PgtAddr);
     }
-    if positions_in(s, x.object) <= w.p2 % 65536 {
+    if positions_in(s, x.object) <= from {
         return Plan::Refused(Refusal::PgtAddr);
     }
-    if !is_index(w.p3 % 65536, h.size - g.size) {
+    if !is_index(index, h.size - g.size) {
         return Plan::Refused(Refusal::PgtAddr);
     }
     map_in_range(s, d, x, w)
@@ -91,11 +99,11 @@ pub fn judge_map_page(s: &[u8], t: Slot, w: Words) -> Plan
     requires { ⌜ wf (read (now s)) ≡ true ⌝ }
     ensures { λ r. ⌜ toldPlan r ≡ mapPage (read (now (s .entry))) t w ⌝ }
 {
-    let a = directory_arg(s, t, number_in_d1(w.p1), 1);
+    let a = directory_arg(s, t, number_in_d1(w.p1), D_ADD_DST);
     let SpanAnswer::Found(d) = a else {
         return Plan::Refused(why_span(a));
     };
-    let b = directory_arg(s, t, number_in_d1(w.p2), 0);
+    let b = directory_arg(s, t, number_in_d1(w.p2), D_ADD_SRC);
     let SpanAnswer::Found(x) = b else {
         return Plan::Refused(why_span(b));
     };

@@ -4,7 +4,7 @@ ghost use Prim.Native.Nat.{_*_, _+_, _<_, _^_, _≤_};
 ghost use lib.Dec.{ltb};
 
 // "index ≥ 2^difference" is refused. No index reaches a power that does not fit a word.
-pub fn is_index(index: u32, difference: u32) -> bool
+pub(crate) fn is_index(index: u32, difference: u32) -> bool
     ensures { λ r. ⌜ r ≡ ltb index (2 ^ difference) ⌝ }
 {
     if 32 <= difference {
@@ -15,7 +15,7 @@ pub fn is_index(index: u32, difference: u32) -> bool
 }
 
 // "Frame = source frame + index·2^(target order)"
-pub fn frame_in(frame: u32, index: u32, order: u32) -> u32
+pub(crate) fn frame_in(frame: u32, index: u32, order: u32) -> u32
     requires { ⌜ (order ≤ 31) × (frame + index * 2 ^ order < 2 ^ 32) ⌝ }
     ensures { λ r. ⌜ r ≡ frame + index * 2 ^ order ⌝ }
 {

@@ -10,7 +10,7 @@ use words::capabilities::Span;
 use words::refusals::Refusal;
 
 // "lowest position .., highest .., both included"
-pub fn in_span(d: Span, i: u32) -> bool
+pub(crate) fn in_span(d: Span, i: u32) -> bool
     ensures { λ r. ⌜ r ≡ inSpan d i ⌝ }
 {
     if i < d.low {
@@ -19,7 +19,7 @@ pub fn in_span(d: Span, i: u32) -> bool
     i <= d.high
 }
 
-pub fn is_empty(x: Position) -> bool
+pub(crate) fn is_empty(x: Position) -> bool
     ensures { λ r. ⌜ r ≡ isEmpty x ⌝ }
 {
     match x {
@@ -46,7 +46,7 @@ pub fn is_child(x: Position) -> bool
 }
 
 // The page at a position, or the refusal that the call gives where there is none.
-pub fn as_page(why: Refusal, x: Position) -> FrameAnswer
+pub(crate) fn as_page(why: Refusal, x: Position) -> FrameAnswer
     ensures { λ r. ⌜ toldFrame r ≡ asPage why x ⌝ }
 {
     match x {

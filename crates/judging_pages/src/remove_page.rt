@@ -17,13 +17,14 @@ use words::answers::why_span;
 use words::capabilities::Position;
 use words::fields::Words;
 use words::fields::number_in_word;
+use words::flag_bits::D_REM;
 use words::numbers::Slot;
 use words::refusals::Refusal;
 
 pub fn judge_remove_page(s: &[u8], t: Slot, w: Words) -> Plan
     ensures { λ r. ⌜ toldPlan r ≡ removePage (read (now (s .entry))) t w ⌝ }
 {
-    let a = directory_arg(s, t, number_in_word(w.p1), 2);
+    let a = directory_arg(s, t, number_in_word(w.p1), D_REM);
     let SpanAnswer::Found(d) = a else {
         return Plan::Refused(why_span(a));
     };

@@ -13,13 +13,16 @@ use words::capabilities::Stretch;
 use words::numbers::KernelAddress;
 use words::numbers::Slot;
 use words::refusals::Refusal;
+use words::sizes::KERNEL_START;
+use words::sizes::SLOT_SIZE_U32;
+use words::sizes::SLOT_SIZE_U64;
 
 // "the upper is excluded"; the end is computed wide, so that it does not wrap.
 fn lies_in(m: Stretch, a: KernelAddress, n: u32) -> bool
     ensures { λ r. ⌜ r ≡ (eqb (a .0 % slotSize) 0 & leb (m .low .0) (a .0) & leb (a .0 + slotSize * n) (m .high .0)) ⌝ }
 {
     let at = a.0;
-    if at % 64 != 0 {
+    if at % SLOT_SIZE_U32 != 0 {
         return false;
     }
     let low = m.low;
@@ -27,7 +30,7 @@ fn lies_in(m: Stretch, a: KernelAddress, n: u32) -> bool
         return false;
     }
     let high = m.high;
-    (at as u64) + 64 * (n as u64) <= (high.0 as u64)
+    (at as u64) + SLOT_SIZE_U64 * (n as u64) <= (high.0 as u64)
 }
 
 // What a memory right of a well-formed state shows: it lies in kernel memory, so that an address in it has a slot.
@@ -40,7 +43,7 @@ pub fn address_arg(s: &[u8], m: Stretch, a: KernelAddress, n: u32) -> SlotAnswer
         return SlotAnswer::Refused(Refusal::CapFlag);
     }
     let at = a.0;
-    let k = Slot(((at - 0x20000000) / 64) as u8);
+    let k = Slot(((at - KERNEL_START) / SLOT_SIZE_U32) as u8);
     if !all_free(s, k, n) {
         return SlotAnswer::Refused(Refusal::CapKotbl);
     }

@@ -9,6 +9,7 @@ use words::answers::Verdict;
 use words::capabilities::Capability;
 use words::capabilities::Frost;
 use words::refusals::Refusal;
+use words::sizes::QUIET_TICKS;
 
 fn stamp_of(f: Frost) -> u32
     ensures { λ r. ⌜ r ≡ stampOf f ⌝ }
@@ -29,7 +30,7 @@ pub fn quiet(s: &[u8], c: Capability) -> Verdict
     ensures { λ r. ⌜ toldVerdict r ≡ Places.quiet (read (now (s .entry))) c ⌝ }
 {
     let f = c.frost;
-    if age(s, f) < 8 {
+    if age(s, f) < QUIET_TICKS {
         return Verdict::Refused(Refusal::CapQuie);
     }
     Verdict::Passed

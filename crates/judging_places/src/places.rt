@@ -34,7 +34,7 @@ pub fn to_fill(s: &[u8], t: Slot, e: u32) -> SpotAnswer
 }
 
 // RANGE, NULL.
-pub fn used_at(s: &[u8], t: Slot, e: u32) -> RightAnswer
+fn used_at(s: &[u8], t: Slot, e: u32) -> RightAnswer
     ensures { λ r. ⌜ toldRight r ≡ usedAt (read (now (s .entry))) t e ⌝ }
 {
     if entries_in(s, t) <= e {

@@ -13,16 +13,20 @@ use words::answers::SlotAnswer;
 use words::answers::why_slot;
 use words::fields::Words;
 use words::fields::number_in_word;
+use words::flag_bits::D_PROC_PGT;
+use words::flag_bits::P_CPT;
+use words::flag_bits::P_PGT;
+use words::flag_bits::T_PROC_CPT;
 use words::numbers::Slot;
 
 pub fn judge_change_table(s: &[u8], t: Slot, w: Words) -> Plan
     ensures { λ r. ⌜ toldPlan r ≡ changeTable (read (now (s .entry))) t w ⌝ }
 {
-    let a = process_arg(s, t, number_in_word(w.p1), 0);
+    let a = process_arg(s, t, number_in_word(w.p1), P_CPT);
     let SlotAnswer::Found(p) = a else {
         return Plan::Refused(why_slot(a));
     };
-    let b = table_arg(s, t, number_in_word(w.p2), 7);
+    let b = table_arg(s, t, number_in_word(w.p2), T_PROC_CPT);
     let SlotAnswer::Found(o) = b else {
         return Plan::Refused(why_slot(b));
     };
@@ -35,11 +39,11 @@ pub fn judge_change_table(s: &[u8], t: Slot, w: Words) -> Plan
 pub fn judge_change_directory(s: &[u8], t: Slot, w: Words) -> Plan
     ensures { λ r. ⌜ toldPlan r ≡ changeDirectory (read (now (s .entry))) t w ⌝ }
 {
-    let a = process_arg(s, t, number_in_word(w.p1), 1);
+    let a = process_arg(s, t, number_in_word(w.p1), P_PGT);
     let SlotAnswer::Found(p) = a else {
         return Plan::Refused(why_slot(a));
     };
-    let b = top_arg(s, t, number_in_word(w.p2), 7);
+    let b = top_arg(s, t, number_in_word(w.p2), D_PROC_PGT);
     let SlotAnswer::Found(d) = b else {
         return Plan::Refused(why_slot(b));
     };

@@ -25,19 +25,25 @@ use words::fields::Words;
 use words::fields::address_in_word;
 use words::fields::number_in_c;
 use words::fields::number_in_word;
+use words::flag_bits::M_SIG;
+use words::flag_bits::T_CRT;
+use words::flag_bits::T_DEL;
 use words::numbers::Slot;
 use words::refusals::Refusal;
+
+// "process, endpoint: one slot each"
+const ENDPOINT_SLOTS: u32 = 1;
 
 // On a well-formed state the memory right lies in kernel memory, so that an address in it has a slot.
 pub fn judge_create_endpoint(s: &[u8], t: Slot, w: Words) -> Plan
     requires { ⌜ wf (read (now s)) ≡ true ⌝ }
     ensures { λ r. ⌜ toldPlan r ≡ createEndpoint (read (now (s .entry))) t w ⌝ }
 {
-    let a = table_arg(s, t, number_in_c(w), 0);
+    let a = table_arg(s, t, number_in_c(w), T_CRT);
     let SlotAnswer::Found(c) = a else {
         return Plan::Refused(why_slot(a));
     };
-    let b = memory_arg(s, t, number_in_word(w.p1), 4);
+    let b = memory_arg(s, t, number_in_word(w.p1), M_SIG);
     let StretchAnswer::Found(m) = b else {
         return Plan::Refused(why_stretch(b));
     };
@@ -45,7 +51,7 @@ pub fn judge_create_endpoint(s: &[u8], t: Slot, w: Words) -> Plan
     let SpotAnswer::Found(p) = l else {
         return Plan::Refused(why_spot(l));
     };
-    let x = address_arg(s, m, address_in_word(w.p3), 1);
+    let x = address_arg(s, m, address_in_word(w.p3), ENDPOINT_SLOTS);
     let SlotAnswer::Found(first) = x else {
         return Plan::Refused(why_slot(x));
     };
@@ -55,7 +61,7 @@ pub fn judge_create_endpoint(s: &[u8], t: Slot, w: Words) -> Plan
 pub fn judge_delete_endpoint(s: &[u8], t: Slot, w: Words) -> Plan
     ensures { λ r. ⌜ toldPlan r ≡ deleteEndpoint (read (now (s .entry))) t w ⌝ }
 {
-    let a = table_arg(s, t, number_in_c(w), 1);
+    let a = table_arg(s, t, number_in_c(w), T_DEL);
     let SlotAnswer::Found(c) = a else {
         return Plan::Refused(why_slot(a));
     };

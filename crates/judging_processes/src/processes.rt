@@ -23,10 +23,19 @@ use words::answers::why_spot;
 use words::answers::why_stretch;
 use words::fields::Words;
 use words::fields::address_in_word;
+use words::fields::d0;
 use words::fields::number_in_c;
 use words::fields::number_in_d0;
 use words::fields::number_in_d1;
+use words::flag_bits::D_PROC_CRT;
+use words::flag_bits::M_PROC;
+use words::flag_bits::T_CRT;
+use words::flag_bits::T_DEL;
+use words::flag_bits::T_PROC_CRT;
 use words::numbers::Slot;
+
+// "process, endpoint: one slot each"
+const PROCESS_SLOTS: u32 = 1;
 
 // On a well-formed state the memory right lies in kernel memory, so that an address in it has a slot.
 pub fn judge_create_process(s: &[u8], t: Slot, w: Words) -> Plan
@@ -36,27 +45,27 @@ pub fn judge_create_process(s: &[u8], t: Slot, w: Words) -> Plan
     // The new process's own table and directory.
     let its_table = number_in_d1(w.p2);
     let its_directory = number_in_d0(w.p2);
-    let a = table_arg(s, t, number_in_c(w), 0);
+    let a = table_arg(s, t, number_in_c(w), T_CRT);
     let SlotAnswer::Found(c) = a else {
         return Plan::Refused(why_slot(a));
     };
-    let b = memory_arg(s, t, number_in_d1(w.p1), 2);
+    let b = memory_arg(s, t, number_in_d1(w.p1), M_PROC);
     let StretchAnswer::Found(m) = b else {
         return Plan::Refused(why_stretch(b));
     };
-    let f = table_arg(s, t, its_table, 6);
+    let f = table_arg(s, t, its_table, T_PROC_CRT);
     let SlotAnswer::Found(o) = f else {
         return Plan::Refused(why_slot(f));
     };
-    let g = top_arg(s, t, its_directory, 6);
+    let g = top_arg(s, t, its_directory, D_PROC_CRT);
     let SlotAnswer::Found(d) = g else {
         return Plan::Refused(why_slot(g));
     };
-    let l = to_fill(s, c, w.p1 % 65536);
+    let l = to_fill(s, c, d0(w.p1));
     let SpotAnswer::Found(p) = l else {
         return Plan::Refused(why_spot(l));
     };
-    let x = address_arg(s, m, address_in_word(w.p3), 1);
+    let x = address_arg(s, m, address_in_word(w.p3), PROCESS_SLOTS);
     let SlotAnswer::Found(first) = x else {
         return Plan::Refused(why_slot(x));
     };
@@ -71,7 +80,7 @@ pub fn judge_create_process(s: &[u8], t: Slot, w: Words) -> Plan
 pub fn judge_delete_process(s: &[u8], t: Slot, w: Words) -> Plan
     ensures { λ r. ⌜ toldPlan r ≡ deleteProcess (read (now (s .entry))) t w ⌝ }
 {
-    let a = table_arg(s, t, number_in_c(w), 1);
+    let a = table_arg(s, t, number_in_c(w), T_DEL);
     let SlotAnswer::Found(c) = a else {
         return Plan::Refused(why_slot(a));
     };

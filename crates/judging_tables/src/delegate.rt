@@ -16,31 +16,35 @@ use words::answers::why_right;
 use words::answers::why_slot;
 use words::answers::why_spot;
 use words::fields::Words;
+use words::fields::d0;
 use words::fields::number_in_d1;
+use words::flag_bits::T_ADD_DST;
+use words::flag_bits::T_ADD_SRC;
 use words::numbers::Slot;
 
 pub fn judge_delegate(s: &[u8], t: Slot, w: Words) -> Plan
     ensures { λ r. ⌜ toldPlan r ≡ delegate (read (now (s .entry))) t w ⌝ }
 {
-    let to = table_arg(s, t, number_in_d1(w.p1), 4);
+    let to = table_arg(s, t, number_in_d1(w.p1), T_ADD_DST);
     let SlotAnswer::Found(d) = to else {
         return Plan::Refused(why_slot(to));
     };
-    let from = table_arg(s, t, number_in_d1(w.p2), 3);
+    let from = table_arg(s, t, number_in_d1(w.p2), T_ADD_SRC);
     let SlotAnswer::Found(o) = from else {
         return Plan::Refused(why_slot(from));
     };
-    let f = to_fill(s, d, w.p1 % 65536);
+    let f = to_fill(s, d, d0(w.p1));
     let SpotAnswer::Found(p) = f else {
         return Plan::Refused(why_spot(f));
     };
-    let l = thawed_at(s, o, w.p2 % 65536);
+    let e = d0(w.p2);
+    let l = thawed_at(s, o, e);
     let RightAnswer::Found(c) = l else {
         return Plan::Refused(why_right(l));
     };
     // the number of the source's place, by which the child names its parent
     let n = o.0 as u32;
-    let a = grant_of(c, 2 * n + w.p2 % 65536, w);
+    let a = grant_of(c, 2 * n + e, w);
     let RightAnswer::Found(g) = a else {
         return Plan::Refused(why_right(a));
     };

@@ -11,13 +11,18 @@ use reading::places::place_of;
 use reading::tables::entries_in;
 use words::capabilities::is_blank;
 use words::numbers::Slot;
+use words::sizes::ENTRY_SIZE;
+use words::sizes::ENTRY_SIZE_U32;
+use words::sizes::SLOT_REST_U32;
+use words::sizes::SLOT_SIZE_U32;
 
 // "hands on just its slots": those of a table with so many entries.
 fn table_slots(s: &[u8], t: Slot, entries: u32) -> &[u8]
     requires { ⌜ entries ≤ 255 ⌝ }
     ensures { λ r. ⌜ now r ≡ take (slotSize * slotsFor (entrySize * entries)) (drop (slotSize * t .0) (now (s .entry))) ⌝ }
 {
-    slots_from(s, t, ((32 * entries + 63) / 64) as u16)
+    let slots = (ENTRY_SIZE_U32 * entries + SLOT_REST_U32) / SLOT_SIZE_U32;
+    slots_from(s, t, slots as u16)
 }
 
 // Entry e of the table whose slots are the part.
@@ -25,10 +30,10 @@ fn is_blank_at(part: &[u8], e: u32) -> bool
     requires { ⌜ e ≤ 255 ⌝ }
     ensures { λ r. ⌜ r ≡ isBlank (placeOf (now (part .entry)) (entrySize * e)) ⌝ }
 {
-    is_blank(place_of(part, 32 * (e as usize)))
+    is_blank(place_of(part, ENTRY_SIZE * (e as usize)))
 }
 
-pub fn is_empty_table(s: &[u8], o: Slot) -> bool
+pub(crate) fn is_empty_table(s: &[u8], o: Slot) -> bool
     ensures { λ r. ⌜ r ≡ isEmptyTable (read (now (s .entry))) o ⌝ }
 {
     let entries = entries_in(s, o);

@@ -14,12 +14,13 @@ use words::answers::why_right;
 use words::answers::why_slot;
 use words::fields::Words;
 use words::fields::number_in_c;
+use words::flag_bits::T_FRZ;
 use words::numbers::Slot;
 
 pub fn judge_freeze(s: &[u8], t: Slot, w: Words) -> Plan
     ensures { λ r. ⌜ toldPlan r ≡ freeze (read (now (s .entry))) t w ⌝ }
 {
-    let a = table_arg(s, t, number_in_c(w), 2);
+    let a = table_arg(s, t, number_in_c(w), T_FRZ);
     let SlotAnswer::Found(c) = a else {
         return Plan::Refused(why_slot(a));
     };

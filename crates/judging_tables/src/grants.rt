@@ -9,6 +9,9 @@ use words::capabilities::Frost;
 use words::capabilities::Kind;
 use words::capabilities::Origin;
 use words::fields::Words;
+use words::fields::d0;
+use words::fields::d1;
+use words::flag_bits::FUNCTION_FLAGS;
 use words::grants::Packed;
 use words::grants::unpack_grant;
 use words::kinds::high_of;
@@ -16,6 +19,14 @@ use words::kinds::kind_number;
 use words::kinds::low_of;
 use words::kinds::object_of;
 use words::refusals::Refusal;
+
+// A directory's flags in bits 7..0, "then lowest position in bits 19..8, highest in 31..20": where the positions begin, and how many
+// a field of twelve bits tells apart.
+const LOW_UNIT: u32 = 0x100;
+
+const POSITIONS_TOLD: u32 = 0x1000;
+
+const HIGH_UNIT: u32 = LOW_UNIT * POSITIONS_TOLD;
 
 // The kind that the words ask for, of a right of the kind: its object, and the range that the words tell.
 fn asked_kind(k: Kind, w: Words) -> Kind
@@ -29,8 +40,8 @@ fn asked_kind(k: Kind, w: Words) -> Kind
             high: _,
         } => Kind::Directory {
             object,
-            low: w.p3 / 256 % 4096,
-            high: w.p3 / 1048576,
+            low: w.p3 / LOW_UNIT % POSITIONS_TOLD,
+            high: w.p3 / HIGH_UNIT,
         },
         Kind::Memory { low: _, high: _ } => {
             let g = unpack_grant(Packed { nc: w.nc, p3: w.p3 });
@@ -41,8 +52,8 @@ fn asked_kind(k: Kind, w: Words) -> Kind
         Kind::Process(o) => Kind::Process(o),
         Kind::Endpoint(o) => Kind::Endpoint(o),
         Kind::Function { low: _, high: _ } => Kind::Function {
-            low: w.p3 % 65536,
-            high: w.p3 / 65536,
+            low: d0(w.p3),
+            high: d1(w.p3),
         },
     }
 }
@@ -57,14 +68,14 @@ fn asked_flags(k: Kind, w: Words) -> u32
             object: _,
             low: _,
             high: _,
-        } => w.p3 % 256,
+        } => w.p3 % LOW_UNIT,
         Kind::Memory { low: _, high: _ } => {
             let g = unpack_grant(Packed { nc: w.nc, p3: w.p3 });
             g.flags
         }
         Kind::Process(_) => w.p3,
         Kind::Endpoint(_) => w.p3,
-        Kind::Function { low: _, high: _ } => 0,
+        Kind::Function { low: _, high: _ } => FUNCTION_FLAGS,
     }
 }
 
@@ -129,7 +140,7 @@ fn is_inside(k: Kind, p: Kind) -> bool
 }
 
 // The right that the words ask for of the right c, as a child of the place of number p.
-pub fn grant_of(c: Capability, p: u32, w: Words) -> RightAnswer
+pub(crate) fn grant_of(c: Capability, p: u32, w: Words) -> RightAnswer
     ensures { λ r. ⌜ toldRight r ≡ granted c p w ⌝ }
 {
     let k = c.kind;

@@ -13,12 +13,13 @@ use words::answers::why_slot;
 use words::answers::why_spot;
 use words::fields::Words;
 use words::fields::number_in_c;
+use words::flag_bits::T_REM;
 use words::numbers::Slot;
 
 pub fn judge_remove(s: &[u8], t: Slot, w: Words) -> Plan
     ensures { λ r. ⌜ toldPlan r ≡ remove (read (now (s .entry))) t w ⌝ }
 {
-    let a = table_arg(s, t, number_in_c(w), 5);
+    let a = table_arg(s, t, number_in_c(w), T_REM);
     let SlotAnswer::Found(c) = a else {
         return Plan::Refused(why_slot(a));
     };

@@ -9,6 +9,7 @@ use borrow.Author.Tests.{eqb-true}
 use Rattle.passed.proofs.Arguments.{is-blank}
 use Rattle.passed.proofs.Stand.{Standing, stands-held}
 use Rattle.passed.specs.Passed.{Deletion, Doomed, a-directory, a-process, a-table, an-endpoint}
+use Rattle.rules.proofs.Pages.{shaped}
 use Rattle.rules.specs.Calls.{isEmptyTable}
 use Rattle.rules.specs.Commit.{commit}
 use Rattle.rules.specs.Formed.{Formed}
@@ -21,7 +22,6 @@ use Rattle.words.specs.Fields.{slot}
 use Rattle.kept.specs.Names.{Blank, Child, Delete, Directory, Endpoint, Kind, Process, Slot, Spot, Table}
 use Rattle.kept.proofs.Deleted.{Unhung, deleted, unhung}
 use Rattle.kept.proofs.Objects.{no-place}
-use Rattle.kept.proofs.Positions.{shaped}
 use Rattle.kept.proofs.Roots.{Of, of-directory, of-endpoint, of-process, of-table}
 
 module _ (st : State) (w : Formed (still st)) where

@@ -15,7 +15,6 @@ pub mod Created
 pub mod Childless
 pub mod Deleted
 pub mod InPlace
-pub mod Frames
 pub mod Positions
 pub mod Grants
 pub mod Places

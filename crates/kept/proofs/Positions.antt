@@ -6,47 +6,28 @@ use Prim.Native.Nat.{_%_, _*_, _+_, _-_, _<_, _^_, ℕ, _≤_}
 use native.Mathlib.Decide.{ℕ-discrete}
 use native.Mathlib.Nat.{le-trans}
 use native.Mathlib.Omega.{arith}
-use lib.Dec.{ltb}
 use lib.ListN.{getD, length, length-set, set}
 use lib.Seq.{getD-set-other, getD-set-same}
 use borrow.Author.Tests.{eq-eqb, eqb-true, le-leb, leb-true, lt-ltb, ltb-true}
 use Rattle.passed.proofs.Stand.{stands-found}
 use Rattle.passed.specs.Passed.{Becomes, PositionSet}
-use Rattle.rules.proofs.Inside.{laid-out, stands-inside}
+use Rattle.rules.proofs.Pages.{frame-multiple, frame-small, shaped}
 use Rattle.rules.specs.Commit.{commit}
 use Rattle.rules.specs.Formed.{Formed}
 use Rattle.rules.specs.WellFormed.{framed, geometric, hangs, objectNo, objectOk, positionOk, still}
 use Rattle.state.proofs.Write.{is-directory}
 use Rattle.state.specs.State.{State, directory, objAt, positionAt, positionsIn, positionsOf, shapeAt}
 use Rattle.words.proofs.Flags.{subset-le}
-use Rattle.words.proofs.Tests.{all-at, all-of, and-both, and-left, and-right}
+use Rattle.words.proofs.Tests.{all-of, and-both, and-left, and-right}
 use Rattle.words.specs.Sizes.{slotsFor}
 use Rattle.kept.specs.Names.{Child, Empty, Page, Position, SetPosition, Slot}
-use Rattle.kept.proofs.Frames.{frame-multiple, frame-small}
 use Rattle.kept.proofs.Put.{put-formed}
 
 module _ (st : State) (w : Formed (still st)) where
-  -- ---- a directory that has a position
-  pub record Shaped (d : Slot) : Type 0 where
-    pub geometry : geometric (shapeAt st d) ≡ true
-    pub start : ltb (shapeAt st d .start) (2 ^ 32) ≡ true
-    pub count : length (positionsOf (objAt st d)) ≡ 2 ^ (shapeAt st d .number)
-    pub each : (i : ℕ) → i < positionsIn st d → positionOk (still st) (shapeAt st d) (positionAt st d i) ≡ true
-
-  pub shaped : (d : Slot) (i : ℕ) → i < positionsIn st d → Shaped d
-  unfolding objectOk
-  shaped d i h =
-      let is = is-directory (objAt st d) i h in
-      let number : objectNo (objAt st d) ≡ 2 = ap objectNo is in
-      let k : objectOk (still st) d (directory (shapeAt st d) (positionsOf (objAt st d))) ≡ true = sym (ap (objectOk (still st) d) is) ∙ w .objects (d .0) (stands-inside (still st) (laid-out w) d 1 number) in
-      let k₁ = and-right _ _ k in
-      let k₂ = and-right _ _ k₁ in
-      record { geometry = and-left _ _ k; start = and-left _ _ k₁; count = eqb-true _ _ (and-left _ _ k₂); each = all-at _ _ (and-right _ _ k₂) }
-
   set-position : (d : Slot) (i : ℕ) (x : Position) → i < positionsIn st d → positionOk (still st) (shapeAt st d) x ≡ true → Formed (still (commit st (SetPosition d i x)))
   unfolding objectOk
   set-position d i x hi ok =
-      let o = shaped d i hi in
+      let o = shaped st w d i hi in
       let es = positionsOf (objAt st d) in
       put-formed (still st) w d _ (is-directory (objAt st d) i hi) 1 refl (directory (shapeAt st d) (set es i x))
       (record { number = refl; entries = refl; positions = length-set es i x; shape = refl; first = λ k. refl; size = ap (λ (n : ℕ). slotsFor (32 + 8 * n)) (length-set es i x) }) refl
@@ -69,7 +50,7 @@ module _ (st : State) (w : Formed (still st)) where
   whole-page : (s : Slot) (k f x : ℕ) → k < positionsIn st s → positionAt st s k ≡ Page f x → Whole s f x
   unfolding positionOk framed geometric
   whole-page s k f x hk q =
-      let sh = shaped s k hk in
+      let sh = shaped st w s k hk in
       let g : positionOk (still st) (shapeAt st s) (Page f x) ≡ true = sym (ap (positionOk (still st) (shapeAt st s)) q) ∙ sh .each k hk in
       record {
         multiple = eqb-true _ _ (and-left _ _ g);

@@ -13,14 +13,14 @@ use Rattle.state.proofs.Write.{bytes-clock}
 use Rattle.state.specs.Bytes.{bytes, le32}
 use Rattle.state.specs.Read.{read}
 use Rattle.state.specs.State.{splice}
-use Rattle.words.specs.Sizes.{stateLength}
+use Rattle.words.specs.Sizes.{clockOffset, stateLength}
 
 pub sound-long : (b : List ℕ) → sound b ≡ true → length b ≡ stateLength
 sound-long b h = sound-open b h .size
 
-pub tick-written : (b : List ℕ) → sound b ≡ true → splice 17408 (le32 ((read b .clock + 1) % 2 ^ 32)) b ≡ bytes (ticked (read b))
+pub tick-written : (b : List ℕ) → sound b ≡ true → splice clockOffset (le32 ((read b .clock + 1) % 2 ^ 32)) b ≡ bytes (ticked (read b))
 unfolding ticked
 tick-written b h =
     let s = sound-open b h in
-    ap (splice 17408 (le32 ((read b .clock + 1) % 2 ^ 32))) (sym (s .bytes-of))
+    ap (splice clockOffset (le32 ((read b .clock + 1) % 2 ^ 32))) (sym (s .bytes-of))
     ∙ sym (bytes-clock (read b) (wf-laid (read b) (s .formed)) ((read b .clock + 1) % 2 ^ 32))

@@ -1,10 +1,9 @@
--- Words put in front of a lent list one by one, and that what packing and unpacking leave is determined.
+-- Words put in front of a lent list one by one.
 use mathlib.Core.List.{List, [], _∷_}
-use mathlib.Core.Path.{_≡_, refl, sym, _∙_}
+use mathlib.Core.Path.{_≡_, refl}
 use Prim.Native.Nat.{ℕ, _≤_}
 use native.Mathlib.Nat.{le-of-suc-le-suc, not-suc-le-zero}
 use lib.ListN.{length, set, drop}
-use Rattle.kernel.specs.Grants.{WordsResult, packResult, unpackResult}
 
 pub two-in-front : (l : List ℕ) (a b : ℕ) → 2 ≤ length l → set (set l 0 a) 1 b ≡ a ∷ b ∷ drop 2 l
 two-in-front [] a b h = absurd (not-suc-le-zero h)
@@ -16,9 +15,3 @@ three-in-front [] a b c h = absurd (not-suc-le-zero h)
 three-in-front (x ∷ []) a b c h = absurd (not-suc-le-zero (le-of-suc-le-suc h))
 three-in-front (x ∷ y ∷ []) a b c h = absurd (not-suc-le-zero (le-of-suc-le-suc (le-of-suc-le-suc h)))
 three-in-front (x ∷ y ∷ z ∷ l) a b c h = refl
-
-pub pack-into-determined : (l u f : ℕ) (out : List ℕ) (x y : WordsResult) → x ≡ packResult l u f out → y ≡ packResult l u f out → x ≡ y
-pack-into-determined l u f out x y p q = p ∙ sym q
-
-pub unpack-into-determined : (nc p3 : ℕ) (out : List ℕ) (x y : WordsResult) → x ≡ unpackResult nc p3 out → y ≡ unpackResult nc p3 out → x ≡ y
-unpack-into-determined nc p3 out x y p q = p ∙ sym q

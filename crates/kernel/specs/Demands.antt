@@ -1,8 +1,7 @@
--- Demand 1 as statements on a call's outcome, and tightness: what a statement determines.
+-- Demand 1 as statements on a call's outcome.
 use mathlib.Core.Path.{_≡_}
 use Prim.Native.Nat.{_<_, _^_, ℕ}
 use lib.IntN.{pos, ℤ}
-use Rattle.rules.specs.Buffer.{Outcome}
 use Rattle.words.specs.Refusals.{number}
 use Rattle.kernel.specs.Names.{Refusal}
 
@@ -10,7 +9,3 @@ use Rattle.kernel.specs.Names.{Refusal}
 pub data Listed (z : ℤ) : Type 0 where
   success : (n : ℕ) → z ≡ pos n → n < 2 ^ 31 → Listed z
   refusal : (r : Refusal) → z ≡ number r → Listed z
-
--- two results that satisfy a statement about the answer and the buffer are equal
-abbrev pub Determined : (Outcome → Type 0) → Type 0
-Determined P = (x y : Outcome) → P x → P y → x ≡ y

@@ -2,7 +2,7 @@
 use mathlib.Core.List.{_∷_, List}
 use Prim.Native.Nat.{ℕ}
 use lib.Dec.{leb}
-use lib.IntN.{negsuc, pos, ℤ}
+use lib.IntN.{pos, ℤ}
 use lib.ListN.{drop, length}
 use Rattle.words.specs.Fields.{address}
 use Rattle.words.specs.Grants.{pack, unpack}
@@ -10,14 +10,14 @@ use Rattle.words.specs.Refusals.{number}
 use Rattle.words.specs.Tests.{choose}
 use Rattle.words.specs.Try.{Try, no!, ok! }
 use Rattle.kernel.specs.Names.{Grant, Packed}
+use Rattle.kernel.specs.Script.{tooFewLent}
 
 pub record WordsResult : Type 0 where
   pub reply : ℤ
   pub words : List ℕ
 
--- −61: too few words lent
 abbrev pub short : List ℕ → WordsResult
-short out = record { reply = negsuc 60; words = out }
+short out = record { reply = tooFewLent; words = out }
 
 -- the words of a grant in front, "−5 for an address off 64 or flags above 63"
 abbrev pub packedInto : List ℕ → Try Packed → WordsResult

@@ -2,6 +2,7 @@
 // values that they carry.
 ghost use mathlib.Core.Path.{_≡_};
 ghost use Rattle.kernel.specs.Grants.{packResult, unpackResult};
+use crate::runs::TOO_FEW_LENT;
 use words::grants::Grant;
 use words::grants::Packed;
 use words::grants::Packing;
@@ -17,7 +18,7 @@ pub extern "C" fn kernel_pack(lower: u32, upper: u32, flags: u32, words: &mut [u
     ensures { λ r. ⌜ (record { reply = r; words = now (words .exit) }) ≡ packResult lower upper flags (now (words .entry)) ⌝ }
 {
     if words.len() < 2 {
-        return -61;
+        return TOO_FEW_LENT;
     }
     let p = pack_grant(Grant {
         lower: KernelAddress(lower),
@@ -41,7 +42,7 @@ pub extern "C" fn kernel_unpack(nc: u32, p3: u32, words: &mut [u32]) -> i32
     ensures { λ r. ⌜ (record { reply = r; words = now (words .exit) }) ≡ unpackResult nc p3 (now (words .entry)) ⌝ }
 {
     if words.len() < 3 {
-        return -61;
+        return TOO_FEW_LENT;
     }
     let g = unpack_grant(Packed { nc, p3 });
     let lower = g.lower;

@@ -6,6 +6,7 @@ use boot::store_boot;
 use reading::clock::clock;
 use words::refusals::Refusal;
 use words::refusals::refusal_number;
+use words::sizes::STATE_LENGTH;
 use writing::clock::store_clock;
 
 // "Boot refuses only a wrong length": −19, and the bytes stay; else 0 and the boot state, whatever was there.
@@ -13,7 +14,7 @@ use writing::clock::store_clock;
 pub extern "C" fn kernel_boot(s: &mut [u8]) -> i32
     ensures { λ r. ⌜ (record { reply = r; buffer = now (s .exit) }) ≡ bootOutcome (now (s .entry)) ⌝ }
 {
-    if s.len() != 17472 {
+    if s.len() != STATE_LENGTH {
         return refusal_number(Refusal::BadState);
     }
     store_boot(s);

@@ -3,3 +3,4 @@ pub mod Runs
 pub mod Finding
 pub mod Spelling
 pub mod Examples
+pub mod Tight

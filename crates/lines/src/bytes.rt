@@ -4,13 +4,13 @@ ghost use lib.ListN.{getD};
 ghost use Rattle.lines.specs.Words.{same};
 
 // 0 past the end: a test on the byte then needs no test on the length.
-pub fn byte_at(text: &[u8], at: usize) -> u8
+pub(crate) fn byte_at(text: &[u8], at: usize) -> u8
     ensures { λ r. ⌜ r ≡ getD (now (text .entry)) at 0 ⌝ }
 {
     if at < text.len() { text[at] } else { 0 }
 }
 
-pub fn is(word: &[u8], name: &[u8]) -> bool
+pub(crate) fn is(word: &[u8], name: &[u8]) -> bool
     ensures { λ r. ⌜ r ≡ same (now (word .entry)) (now (name .entry)) ⌝ }
 {
     check::same(word, name)

@@ -10,7 +10,7 @@ use crate::requests::Fault;
 use crate::requests::Request;
 
 // A command that is a word alone, in a line of n words.
-pub fn command(n: usize, asked: Request, more: Fault) -> Request
+pub(crate) fn command(n: usize, asked: Request, more: Fault) -> Request
     ensures { λ r. ⌜ r ≡ alone n asked more ⌝ }
 {
     if n == 1 {
@@ -21,7 +21,7 @@ pub fn command(n: usize, asked: Request, more: Fault) -> Request
 }
 
 // `tick K`, in a line of n words.
-pub fn tick_in(text: &[u8], n: usize) -> Request
+pub(crate) fn tick_in(text: &[u8], n: usize) -> Request
     requires { ⌜ n ≡ length (wordsOf (now text)) ⌝ }
     ensures { λ r. ⌜ r ≡ tickOf (wordsOf (now (text .entry))) ⌝ }
 {
@@ -35,7 +35,7 @@ pub fn tick_in(text: &[u8], n: usize) -> Request
 }
 
 // `CALLER W0 W1 W2 W3`, in a line of n words: the first word that is no number decides.
-pub fn call_in(text: &[u8], n: usize) -> Request
+pub(crate) fn call_in(text: &[u8], n: usize) -> Request
     requires { ⌜ n ≡ length (wordsOf (now text)) ⌝ }
     ensures { λ r. ⌜ r ≡ callOf (wordsOf (now (text .entry))) ⌝ }
 {

@@ -3,6 +3,11 @@ ghost use mathlib.Core.Path.{_≡_};
 ghost use lib.ListN.{length, take};
 ghost use Rattle.lines.specs.Gather.{gathered, stored};
 
+// "Lines of more than 1,024 bytes are refused": how long a line may be, and the length that stands for any longer one.
+pub const LINE_LENGTH: usize = 1024;
+
+const LONGER: usize = LINE_LENGTH + 1;
+
 // How many bytes the line has so far, 1,025 standing for any more than 1,024, and whether it is ended.
 pub struct Gathered {
     pub length: usize,
@@ -10,7 +15,7 @@ pub struct Gathered {
 }
 
 // The byte after the `length` bytes that the buffer has of the line.
-pub fn gather(line: &mut [u8; 1024], length: usize, byte: u8) -> Gathered
+pub fn gather(line: &mut [u8; LINE_LENGTH], length: usize, byte: u8) -> Gathered
     ensures { λ r. ⌜ r ≡ gathered length byte ⌝ }
     ensures { λ r. ⌜ now (line .exit) ≡ stored (now (line .entry)) length byte ⌝ }
 {
@@ -20,7 +25,7 @@ pub fn gather(line: &mut [u8; 1024], length: usize, byte: u8) -> Gathered
             ended: true,
         };
     }
-    if length < 1024 {
+    if length < LINE_LENGTH {
         line[length] = byte;
         return Gathered {
             length: length + 1,
@@ -28,7 +33,7 @@ pub fn gather(line: &mut [u8; 1024], length: usize, byte: u8) -> Gathered
         };
     }
     Gathered {
-        length: 1025,
+        length: LONGER,
         ended: false,
     }
 }

@@ -13,7 +13,7 @@ pub enum Operand {
 }
 
 // Word k, from 0; faults number the words from 1.
-pub fn operand_at(text: &[u8], k: u8) -> Operand
+pub(crate) fn operand_at(text: &[u8], k: u8) -> Operand
     ensures { λ r. ⌜ r ≡ operandAt (wordsOf (now (text .entry))) k ⌝ }
 {
     let place = k as u32 + 1;

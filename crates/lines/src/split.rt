@@ -5,7 +5,7 @@ ghost use lib.ListN.{getD, length};
 ghost use Rattle.lines.specs.Words.{wordsOf};
 use crate::spans::word_after;
 
-pub fn word_count(line: &[u8]) -> usize
+pub(crate) fn word_count(line: &[u8]) -> usize
     ensures { λ r. ⌜ r ≡ length (wordsOf (now (line .entry))) ⌝ }
 {
     let mut n: usize = 0;
@@ -23,7 +23,7 @@ pub fn word_count(line: &[u8]) -> usize
 }
 
 // Word k; empty where there are not so many.
-pub fn word(line: &[u8], k: usize) -> &[u8]
+pub(crate) fn word(line: &[u8], k: usize) -> &[u8]
     ensures { λ r. ⌜ now r ≡ getD (wordsOf (now (line .entry))) k [] ⌝ }
 {
     let mut at: usize = 0;

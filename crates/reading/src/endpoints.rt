@@ -5,15 +5,18 @@ ghost use Rattle.state.specs.Read.{read};
 use crate::bytes::marked;
 use crate::bytes::word_at;
 use crate::notes::tag_byte;
+use words::layout::BOOT_MARK_AT;
+use words::layout::ENDPOINT_TAG;
 use words::numbers::Count;
 use words::numbers::Slot;
+use words::sizes::SLOT_SIZE;
 
 pub fn count_at(s: &[u8], e: Slot) -> Count
     ensures { λ r. ⌜ r .0 ≡ countOf (objAt (read (now (s .entry))) e) ⌝ }
 {
-    if tag_byte(s, e) == 5 {
+    if tag_byte(s, e) == ENDPOINT_TAG {
         let o = e.0 as usize;
-        return Count(word_at(s, 64 * o));
+        return Count(word_at(s, SLOT_SIZE * o));
     }
     Count(0)
 }
@@ -21,9 +24,9 @@ pub fn count_at(s: &[u8], e: Slot) -> Count
 pub fn boot_mark_at(s: &[u8], e: Slot) -> bool
     ensures { λ r. ⌜ r ≡ bootMark (objAt (read (now (s .entry))) e) ⌝ }
 {
-    if tag_byte(s, e) == 5 {
+    if tag_byte(s, e) == ENDPOINT_TAG {
         let o = e.0 as usize;
-        return marked(word_at(s, 64 * o + 4));
+        return marked(word_at(s, SLOT_SIZE * o + BOOT_MARK_AT));
     }
     false
 }

@@ -9,42 +9,49 @@ ghost use Rattle.state.specs.State.{objAt, isFree, firstOf};
 ghost use Rattle.state.specs.Bytes.{tagOf};
 ghost use Rattle.state.specs.Read.{read};
 use crate::bytes::byte_at;
+use words::layout::ENDPOINT_TAG;
+use words::layout::FREE_TAG;
+use words::layout::LATER_TAG;
+use words::layout::NOTE_ARGUMENTS;
+use words::layout::NOTE_SIZE;
+use words::layout::NOTES;
 use words::numbers::Slot;
+use words::sizes::SLOT_COUNT_U32;
 
 // The two bytes of a note as they stand: the tag, and a table's entries, a directory's number order or the first slot.
 pub fn tag_byte(s: &[u8], k: Slot) -> u8
     ensures { λ r. ⌜ r ≡ getD (now (s .entry)) (memoryLength + 4 * k .0) 0 ⌝ }
 {
     let o = k.0 as usize;
-    byte_at(s, 16384 + 4 * o)
+    byte_at(s, NOTES + NOTE_SIZE * o)
 }
 
 pub fn argument_byte(s: &[u8], k: Slot) -> u8
     ensures { λ r. ⌜ r ≡ getD (now (s .entry)) (memoryLength + 1 + 4 * k .0) 0 ⌝ }
 {
     let o = k.0 as usize;
-    byte_at(s, 16385 + 4 * o)
+    byte_at(s, NOTE_ARGUMENTS + NOTE_SIZE * o)
 }
 
-// What stands in a slot: 0 nothing, 1 an object that goes on, 2 a table, 3 a directory, 4 a process, 5 an endpoint.
+// What stands in a slot: 0 nothing, 1 an object that goes on, 2 a table, 3 a directory, 4 a process, 5 an endpoint. That is the last tag.
 pub fn tag_at(s: &[u8], k: Slot) -> u8
     ensures { λ r. ⌜ r ≡ tagOf (objAt (read (now (s .entry))) k) ⌝ }
 {
     let n = tag_byte(s, k);
-    if n <= 5 { n } else { 0 }
+    if n <= ENDPOINT_TAG { n } else { FREE_TAG }
 }
 
-pub fn is_free(s: &[u8], k: Slot) -> bool
+fn is_free(s: &[u8], k: Slot) -> bool
     ensures { λ r. ⌜ r ≡ isFree (objAt (read (now (s .entry))) k) ⌝ }
 {
-    tag_at(s, k) == 0
+    tag_at(s, k) == FREE_TAG
 }
 
 // The first slot of what stands in a slot.
 pub fn first_at(s: &[u8], k: Slot) -> Slot
     ensures { λ r. ⌜ r ≡ firstOf (k .0) (objAt (read (now (s .entry))) k) ⌝ }
 {
-    if tag_byte(s, k) == 1 {
+    if tag_byte(s, k) == LATER_TAG {
         return Slot(argument_byte(s, k));
     }
     k
@@ -61,7 +68,7 @@ fn free_after(s: &[u8], k: Slot, i: u32) -> bool
 pub fn all_free(s: &[u8], k: Slot, n: u32) -> bool
     ensures { λ r. ⌜ r ≡ allBelow n (λ i. isFree (objAt (read (now (s .entry))) (slot (k .0 + i)))) ⌝ }
 {
-    let left = 256 - k.0 as u32;
+    let left = SLOT_COUNT_U32 - k.0 as u32;
     let mut i: u32 = 0;
     while i < n {
         if left <= i {

@@ -10,6 +10,20 @@ use words::capabilities::Frost;
 use words::capabilities::Kind;
 use words::capabilities::Origin;
 use words::capabilities::Place;
+use words::layout::BLANK;
+use words::layout::DIRECTORY_KIND;
+use words::layout::ENDPOINT_KIND;
+use words::layout::FLAGS_AT;
+use words::layout::FROZEN_AT;
+use words::layout::FUNCTION_KIND;
+use words::layout::HIGH_AT;
+use words::layout::LOW_AT;
+use words::layout::MEMORY_KIND;
+use words::layout::OBJECT_AT;
+use words::layout::PARENT_AT;
+use words::layout::PROCESS_KIND;
+use words::layout::STAMP_AT;
+use words::layout::TABLE_KIND;
 use words::numbers::KernelAddress;
 use words::numbers::Slot;
 
@@ -54,9 +68,9 @@ fn place_from(
     ensures { λ r. ⌜ r ≡ placeFrom tag object low high flags frost origin ⌝ }
 {
     match tag {
-        1 => held(Kind::Table(object), flags, frost, origin),
-        2 => held(Kind::Directory { object, low, high }, flags, frost, origin),
-        3 => held(
+        TABLE_KIND => held(Kind::Table(object), flags, frost, origin),
+        DIRECTORY_KIND => held(Kind::Directory { object, low, high }, flags, frost, origin),
+        MEMORY_KIND => held(
             Kind::Memory {
                 low: KernelAddress(low),
                 high: KernelAddress(high),
@@ -65,9 +79,9 @@ fn place_from(
             frost,
             origin,
         ),
-        4 => held(Kind::Process(object), flags, frost, origin),
-        5 => held(Kind::Endpoint(object), flags, frost, origin),
-        6 => held(Kind::Function { low, high }, flags, frost, origin),
+        PROCESS_KIND => held(Kind::Process(object), flags, frost, origin),
+        ENDPOINT_KIND => held(Kind::Endpoint(object), flags, frost, origin),
+        FUNCTION_KIND => held(Kind::Function { low, high }, flags, frost, origin),
         _ => Place::Blank,
     }
 }
@@ -78,14 +92,14 @@ pub fn place_of(p: &[u8], at: usize) -> Place
     ensures { λ r. ⌜ r ≡ placeOf (now (p .entry)) at ⌝ }
 {
     let tag = word_at(p, at);
-    if tag == 0 {
+    if tag == BLANK {
         return Place::Blank;
     }
-    let flags = word_at(p, at + 4);
-    let low = word_at(p, at + 8);
-    let high = word_at(p, at + 12);
-    let object = Slot(byte_at(p, at + 16));
-    let frost = frost_from(word_at(p, at + 20), word_at(p, at + 24));
-    let origin = origin_from(word_at(p, at + 28));
+    let flags = word_at(p, at + FLAGS_AT);
+    let low = word_at(p, at + LOW_AT);
+    let high = word_at(p, at + HIGH_AT);
+    let object = Slot(byte_at(p, at + OBJECT_AT));
+    let frost = frost_from(word_at(p, at + FROZEN_AT), word_at(p, at + STAMP_AT));
+    let origin = origin_from(word_at(p, at + PARENT_AT));
     place_from(tag, object, low, high, flags, frost, origin)
 }

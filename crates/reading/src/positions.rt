@@ -5,6 +5,10 @@ ghost use Rattle.state.specs.Read.{positionOf};
 use crate::bytes::byte_at;
 use crate::bytes::word_at;
 use words::capabilities::Position;
+use words::layout::CHILD;
+use words::layout::PAGE;
+use words::layout::POSITION_FLAGS_AT;
+use words::layout::POSITION_VALUE_AT;
 use words::numbers::Slot;
 
 // The position that starts at a byte of a part.
@@ -14,13 +18,13 @@ pub fn position_of(p: &[u8], at: usize) -> Position
 {
     let tag = byte_at(p, at);
     match tag {
-        1 => Position::Page {
-            frame: word_at(p, at + 4),
-            flags: byte_at(p, at + 1) as u32,
+        PAGE => Position::Page {
+            frame: word_at(p, at + POSITION_VALUE_AT),
+            flags: byte_at(p, at + POSITION_FLAGS_AT) as u32,
         },
-        2 => Position::Child {
-            object: Slot(byte_at(p, at + 4)),
-            flags: byte_at(p, at + 1) as u32,
+        CHILD => Position::Child {
+            object: Slot(byte_at(p, at + POSITION_VALUE_AT)),
+            flags: byte_at(p, at + POSITION_FLAGS_AT) as u32,
         },
         _ => Position::Empty,
     }

@@ -4,14 +4,17 @@ ghost use Rattle.state.specs.State.{objAt, tableNamed, directoryNamed};
 ghost use Rattle.state.specs.Read.{read};
 use crate::bytes::byte_at;
 use crate::notes::tag_byte;
+use words::layout::DIRECTORY_NAMED_AT;
+use words::layout::PROCESS_TAG;
 use words::numbers::Slot;
+use words::sizes::SLOT_SIZE;
 
 pub fn table_named(s: &[u8], p: Slot) -> Slot
     ensures { λ r. ⌜ r ≡ tableNamed (objAt (read (now (s .entry))) p) ⌝ }
 {
-    if tag_byte(s, p) == 4 {
+    if tag_byte(s, p) == PROCESS_TAG {
         let o = p.0 as usize;
-        return Slot(byte_at(s, 64 * o));
+        return Slot(byte_at(s, SLOT_SIZE * o));
     }
     Slot(0)
 }
@@ -19,9 +22,9 @@ pub fn table_named(s: &[u8], p: Slot) -> Slot
 pub fn directory_named(s: &[u8], p: Slot) -> Slot
     ensures { λ r. ⌜ r ≡ directoryNamed (objAt (read (now (s .entry))) p) ⌝ }
 {
-    if tag_byte(s, p) == 4 {
+    if tag_byte(s, p) == PROCESS_TAG {
         let o = p.0 as usize;
-        return Slot(byte_at(s, 64 * o + 4));
+        return Slot(byte_at(s, SLOT_SIZE * o + DIRECTORY_NAMED_AT));
     }
     Slot(0)
 }

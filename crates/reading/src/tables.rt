@@ -10,13 +10,18 @@ use crate::notes::argument_byte;
 use crate::notes::tag_byte;
 use crate::places::place_of;
 use words::capabilities::Place;
+use words::layout::TABLE_TAG;
 use words::numbers::Slot;
+use words::sizes::ENTRY_SIZE;
+use words::sizes::ENTRY_SIZE_U16;
+use words::sizes::SLOT_REST_U16;
+use words::sizes::SLOT_SIZE_U16;
 
 // How many entries the table in a slot has; none where there is no table.
 fn entries_of(s: &[u8], t: Slot) -> u8
     ensures { λ r. ⌜ r ≡ entriesIn (read (now (s .entry))) t ⌝ }
 {
-    if tag_byte(s, t) == 2 {
+    if tag_byte(s, t) == TABLE_TAG {
         return argument_byte(s, t);
     }
     0
@@ -32,7 +37,11 @@ pub fn entries_in(s: &[u8], t: Slot) -> u32
 fn table_part(s: &[u8], t: Slot, entries: u8) -> &[u8]
     ensures { λ r. ⌜ now r ≡ take (slotSize * slotsFor (entrySize * entries)) (drop (slotSize * t .0) (now (s .entry))) ⌝ }
 {
-    slots_from(s, t, (32 * (entries as u16) + 63) / 64)
+    slots_from(
+        s,
+        t,
+        (ENTRY_SIZE_U16 * (entries as u16) + SLOT_REST_U16) / SLOT_SIZE_U16,
+    )
 }
 
 // An entry of the table in a slot; blank past its entries.
@@ -44,5 +53,5 @@ pub fn place_at(s: &[u8], t: Slot, e: u32) -> Place
         return Place::Blank;
     }
     let part = table_part(s, t, n);
-    place_of(part, 32 * (e as usize))
+    place_of(part, ENTRY_SIZE * (e as usize))
 }

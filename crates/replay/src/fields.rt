@@ -49,7 +49,7 @@ fn field_of(text: &[u8], next: usize) -> Field {
 }
 
 // The field that stands at or after a byte of a line.
-pub fn field_at(line: &[u8], at: usize) -> Field {
+pub(crate) fn field_at(line: &[u8], at: usize) -> Field {
     let w = word_after(line, at);
     let from = w.from;
     let to = w.to;

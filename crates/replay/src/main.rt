@@ -7,6 +7,7 @@ mod records;
 mod steps;
 mod tally;
 
+use crate::pairs::PAIRS;
 use crate::pairs::say_pairs;
 use crate::records::record_in;
 use crate::steps::again;
@@ -14,12 +15,17 @@ use crate::tally::count;
 use crate::tally::say_counts;
 use libc::STDIN_FILENO;
 use libc::STDOUT_FILENO;
+use lines::gather::LINE_LENGTH;
 use lines::gather::first;
 use lines::gather::gather;
+use words::sizes::STATE_LENGTH;
 
 fn say(text: &[u8]) {
     io::write_all(STDOUT_FILENO, text);
 }
+
+// How much is read at a time.
+const CHUNK_LENGTH: usize = 4096;
 
 // How far the record has been read: the bytes of the line that is not yet ended, the lines before it, and whether a step has come out
 // otherwise.
@@ -39,8 +45,8 @@ fn say_difference(number: u64, line: &[u8]) {
 
 // The line that ends here; answers whether it comes out otherwise.
 fn end_line(
-    s: &mut [u8; 17472],
-    met: &mut [u8; 441],
+    s: &mut [u8; STATE_LENGTH],
+    met: &mut [u8; PAIRS],
     counts: &mut [u64; 8],
     line: &[u8],
     number: u64,
@@ -55,10 +61,10 @@ fn end_line(
 }
 
 fn take_byte(
-    s: &mut [u8; 17472],
-    met: &mut [u8; 441],
+    s: &mut [u8; STATE_LENGTH],
+    met: &mut [u8; PAIRS],
     counts: &mut [u64; 8],
-    line: &mut [u8; 1024],
+    line: &mut [u8; LINE_LENGTH],
     p: Progress,
     byte: u8,
 ) -> Progress {
@@ -80,10 +86,10 @@ fn take_byte(
 }
 
 fn take_bytes(
-    s: &mut [u8; 17472],
-    met: &mut [u8; 441],
+    s: &mut [u8; STATE_LENGTH],
+    met: &mut [u8; PAIRS],
     counts: &mut [u64; 8],
-    line: &mut [u8; 1024],
+    line: &mut [u8; LINE_LENGTH],
     p: Progress,
     bytes: &[u8],
 ) -> Progress {
@@ -104,13 +110,13 @@ struct Turn {
 }
 
 fn read_once(
-    s: &mut [u8; 17472],
-    met: &mut [u8; 441],
+    s: &mut [u8; STATE_LENGTH],
+    met: &mut [u8; PAIRS],
     counts: &mut [u64; 8],
-    line: &mut [u8; 1024],
+    line: &mut [u8; LINE_LENGTH],
     p: Progress,
 ) -> Turn {
-    let mut chunk = [0u8; 4096];
+    let mut chunk = [0u8; CHUNK_LENGTH];
     let got = libc::read(STDIN_FILENO, &mut chunk);
     let n = io::count(got, &chunk);
     if n == 0 {
@@ -129,10 +135,10 @@ fn read_once(
 // Whether every step comes out as recorded. The reads are counted down from a number that no run uses up, since a proved loop has
 // to end.
 fn replay(
-    s: &mut [u8; 17472],
-    met: &mut [u8; 441],
+    s: &mut [u8; STATE_LENGTH],
+    met: &mut [u8; PAIRS],
     counts: &mut [u64; 8],
-    line: &mut [u8; 1024],
+    line: &mut [u8; LINE_LENGTH],
 ) -> bool {
     let mut p = Progress {
         length: 0,
@@ -152,10 +158,10 @@ fn replay(
 }
 
 fn main() {
-    let mut s = [0u8; 17472];
-    let mut met = [0u8; 441];
+    let mut s = [0u8; STATE_LENGTH];
+    let mut met = [0u8; PAIRS];
     let mut counts = [0u64; 8];
-    let mut line = [0u8; 1024];
+    let mut line = [0u8; LINE_LENGTH];
     if replay(&mut s, &mut met, &mut counts, &mut line) {
         say_counts(&counts);
         say_pairs(&met);

@@ -1,6 +1,22 @@
 // Which answers each call gave: a row for each of the twenty numbers and one, 0, for all others; a column for 0, one for a positive
 // count, and one for each refusal.
 use libc::STDOUT_FILENO;
+use words::calls::FUNCTION;
+use words::fields::CALL_NUMBERS;
+use words::fields::HALF;
+
+// A row for each call and one, a column for each refusal and two.
+const CALLS: u32 = FUNCTION;
+
+const ROWS: u32 = CALLS + 1;
+
+const LAST_COLUMN: u32 = 20;
+
+const COLUMNS_U32: u32 = LAST_COLUMN + 1;
+
+const COLUMNS: usize = COLUMNS_U32 as usize;
+
+pub(crate) const PAIRS: usize = COLUMNS * (ROWS as usize);
 
 fn say(text: &[u8]) {
     io::write_all(STDOUT_FILENO, text);
@@ -12,12 +28,12 @@ fn say_number(n: u32) {
 
 // The row of the call whose first word is w0, by N[5:0].
 fn row(w0: u32) -> u32 {
-    let n = w0 / 65536 % 64;
-    if n <= 20 { n } else { 0 }
+    let n = w0 / HALF % CALL_NUMBERS;
+    if n <= CALLS { n } else { 0 }
 }
 
 // Refusal −k has column k + 1.
-pub fn column(answer: i32) -> u32 {
+pub(crate) fn column(answer: i32) -> u32 {
     match answer {
         0 => 0,
         -1 => 2,
@@ -43,27 +59,27 @@ pub fn column(answer: i32) -> u32 {
     }
 }
 
-// Where a pair stands in the table of 21 rows and 21 columns; 441 is none.
+// Where a pair stands in the table of rows and columns; PAIRS is none.
 fn place(row: u32, column: u32) -> usize {
-    if 20 < row {
-        return 441;
+    if CALLS < row {
+        return PAIRS;
     }
-    if 20 < column {
-        return 441;
+    if LAST_COLUMN < column {
+        return PAIRS;
     }
-    21 * (row as usize) + column as usize
+    COLUMNS * (row as usize) + column as usize
 }
 
-pub fn note(met: &mut [u8; 441], w0: u32, answer: i32) {
+pub(crate) fn note(met: &mut [u8; PAIRS], w0: u32, answer: i32) {
     let at = place(row(w0), column(answer));
-    if at < 441 {
+    if at < PAIRS {
         met[at] = 1;
     }
 }
 
-fn is_met(met: &[u8; 441], row: u32, column: u32) -> bool {
+fn is_met(met: &[u8; PAIRS], row: u32, column: u32) -> bool {
     let at = place(row, column);
-    if at < 441 { met[at] != 0 } else { false }
+    if at < PAIRS { met[at] != 0 } else { false }
 }
 
 fn say_column(column: u32) {
@@ -77,8 +93,8 @@ fn say_column(column: u32) {
     }
 }
 
-fn say_row(met: &[u8; 441], row: u32) {
-    for column in 0..21 {
+fn say_row(met: &[u8; PAIRS], row: u32) {
+    for column in 0..COLUMNS_U32 {
         if is_met(met, row, column) {
             say_column(column);
         }
@@ -97,8 +113,8 @@ fn say_name(row: u32) {
 }
 
 // The answers that each call gave, a call a line.
-pub fn say_pairs(met: &[u8; 441]) {
-    for row in 0..21 {
+pub(crate) fn say_pairs(met: &[u8; PAIRS]) {
+    for row in 0..ROWS {
         say_name(row);
         say_row(met, row);
     }

@@ -56,7 +56,7 @@ fn hash_in(line: &[u8]) -> Record {
 }
 
 // By the line's first byte.
-pub fn record_in(line: &[u8]) -> Record {
+pub(crate) fn record_in(line: &[u8]) -> Record {
     if line.len() == 0 {
         return Record::Nothing;
     }

@@ -1,5 +1,6 @@
 // A recorded step made again: whether it comes out as recorded.
 use crate::fields::Field;
+use crate::pairs::PAIRS;
 use crate::pairs::column;
 use crate::pairs::note;
 use crate::records::Call;
@@ -8,6 +9,10 @@ use kernel::calls::kernel_call;
 use kernel::states::kernel_boot;
 use kernel::states::kernel_tick;
 use lines::counts::count_of;
+use words::sizes::STATE_LENGTH;
+
+// A word begins before this.
+const WORDS_END: u32 = STATE_LENGTH as u32 - 3;
 
 fn is(answer: i32, f: Field) -> bool {
     if f.negative {
@@ -19,15 +24,15 @@ fn is(answer: i32, f: Field) -> bool {
     count_of(answer) == f.value
 }
 
-fn set_byte(s: &mut [u8; 17472], at: usize, byte: u32) {
-    if at < 17472 {
+fn set_byte(s: &mut [u8; STATE_LENGTH], at: usize, byte: u32) {
+    if at < STATE_LENGTH {
         s[at] = (byte % 256) as u8;
     }
 }
 
 // Little-endian.
-fn set_word(s: &mut [u8; 17472], at: u32, word: u32) {
-    if at < 17469 {
+fn set_word(s: &mut [u8; STATE_LENGTH], at: u32, word: u32) {
+    if at < WORDS_END {
         let a = at as usize;
         set_byte(s, a, word);
         set_byte(s, a + 1, word / 256);
@@ -41,15 +46,15 @@ fn hashed(h: u64, byte: u8) -> u64 {
     std::num::wrapping_add_u64(std::num::wrapping_add_u64(h << 5, h), byte as u64)
 }
 
-fn hash(s: &[u8; 17472]) -> u64 {
+fn hash(s: &[u8; STATE_LENGTH]) -> u64 {
     let mut h: u64 = 5381;
-    for i in 0..17472 {
+    for i in 0..STATE_LENGTH {
         h = hashed(h, s[i]);
     }
     h
 }
 
-fn is_hash(s: &[u8; 17472], high: u32, low: u32) -> bool {
+fn is_hash(s: &[u8; STATE_LENGTH], high: u32, low: u32) -> bool {
     let h = hash(s);
     if h >> 32 != high as u64 {
         return false;
@@ -57,21 +62,21 @@ fn is_hash(s: &[u8; 17472], high: u32, low: u32) -> bool {
     h & 0xFFFFFFFF == low as u64
 }
 
-fn boot_again(s: &mut [u8; 17472], answer: Field) -> bool {
+fn boot_again(s: &mut [u8; STATE_LENGTH], answer: Field) -> bool {
     is(kernel_boot(s), answer)
 }
 
-fn tick_again(s: &mut [u8; 17472], answer: Field) -> bool {
+fn tick_again(s: &mut [u8; STATE_LENGTH], answer: Field) -> bool {
     is(kernel_tick(s), answer)
 }
 
-fn call_again(s: &mut [u8; 17472], met: &mut [u8; 441], c: Call, answer: Field) -> bool {
+fn call_again(s: &mut [u8; STATE_LENGTH], met: &mut [u8; PAIRS], c: Call, answer: Field) -> bool {
     let given = kernel_call(s, c.caller, c.w0, c.w1, c.w2, c.w3);
     note(met, c.w0, given);
     is(given, answer)
 }
 
-pub fn again(s: &mut [u8; 17472], met: &mut [u8; 441], r: Record) -> bool {
+pub(crate) fn again(s: &mut [u8; STATE_LENGTH], met: &mut [u8; PAIRS], r: Record) -> bool {
     match r {
         Record::Nothing => true,
         Record::Boot(answer) => boot_again(s, answer),

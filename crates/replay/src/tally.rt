@@ -14,7 +14,7 @@ fn sort(r: Record) -> usize {
     }
 }
 
-pub fn count(counts: &mut [u64; 8], r: Record) {
+pub(crate) fn count(counts: &mut [u64; 8], r: Record) {
     let k = sort(r);
     if k < 8 {
         counts[k] = std::num::wrapping_add_u64(counts[k], 1);
@@ -26,7 +26,7 @@ fn say_count(n: u64, name: &[u8]) {
     io::write_all(STDOUT_FILENO, name);
 }
 
-pub fn say_counts(counts: &[u64; 8]) {
+pub(crate) fn say_counts(counts: &[u64; 8]) {
     say_count(counts[4], b" calls, ");
     say_count(counts[2], b" ticks and ");
     say_count(counts[1], b" boots answered as recorded; ");

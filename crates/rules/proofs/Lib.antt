@@ -3,6 +3,7 @@ pub mod Facts
 pub mod Clock
 pub mod Named
 pub mod Inside
+pub mod Pages
 pub mod Held
 pub mod Lift
 pub mod Chain

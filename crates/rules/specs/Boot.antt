@@ -30,7 +30,7 @@ abbrev pub bootPages : (i n : ℕ) → List Position
 bootPages i zero = []
 bootPages i (suc n) = Page (i * 2 ^ 29) pageFlags ∷ bootPages (suc i) n
 
--- "a 32-entry table at slot 0; a top directory at slot 16; a process at 18 with both; an endpoint at 19"
+-- "a 32-entry table at slot 0; a top directory at slot 16 ..; a process at 18 with both; an endpoint at 19"
 abbrev pub bootSlots : List Object
 bootSlots =
     table bootPlaces ∷ (replicate 15 (body (slot 0))

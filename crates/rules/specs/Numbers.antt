@@ -82,7 +82,7 @@ twoStep st t v = do
 unfoldable pub lookup : State → Slot → CapabilityNumber → Try Capability
 lookup st t v = elim (ltb (v .0) 128) [ true ↦ rightAt st t (v .0) | false ↦ twoStep st t (v .0) ]
 
--- the kind, then FLAG, "flag lacking"
+-- the kind, then FLAG, "flag or range lacking"
 unfoldable pub argument : {A : Type 0} → (Kind → Try A) → State → Slot → ℕ → ℕ → Try A
 argument kind st t v f = do
   c ← lookup st t (capabilityNumber v)

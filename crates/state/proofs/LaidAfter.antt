@@ -1,4 +1,4 @@
--- The layout after each change of the state: "objects lie in kernel memory and don't overlap" stays so.
+-- The layout after a place is written and after an object is raised or razed: "objects lie in kernel memory and don't overlap" stays so.
 use mathlib.Core.Path.{_≡_, refl, sym, _∙_, ap, subst}
 use mathlib.Core.Bool.{true, false, false≢true}
 use mathlib.Core.List.{List, [], _∷_, _++_}
@@ -10,13 +10,13 @@ use lib.Seq.{getD-drop}
 use borrow.Author.Tests.{eq-eqb}
 use Rattle.words.specs.Sizes.{slotsFor}
 use Rattle.words.specs.Fields.{slot}
-use Rattle.state.specs.Names.{Slot, Count, Spot, Place, Position}
-use Rattle.state.specs.State.{Object, free, body, table, directory, process, endpoint, State, sizeOf, placesOf, positionsOf, bootMark, objAt, entriesIn, positionsIn, splice, withSlots, withClock, put, putPlace, putPosition, risen, raise, raze}
+use Rattle.state.specs.Names.{Slot, Spot, Place}
+use Rattle.state.specs.State.{Object, free, body, table, directory, process, endpoint, State, sizeOf, placesOf, objAt, entriesIn, splice, withSlots, put, putPlace, risen, raise, raze}
 use Rattle.state.specs.Layout.{goesOn, lay, Laid}
 use Rattle.state.specs.Bytes.{tagOf}
 use Rattle.state.proofs.Pieces.{length-splice}
 use Rattle.state.proofs.Sizes.{lay-zero, lay-suc, goes-none, lay-set}
-use Rattle.state.proofs.Write.{is-table, is-directory, is-process, is-endpoint}
+use Rattle.state.proofs.Write.{is-table}
 use Rattle.state.proofs.Run.{risen-length, object-some, object-fits}
 
 -- ---- one step of the layout, made
@@ -113,21 +113,6 @@ module _ (st : State) (w : Laid st) where
       let is : objAt st (p .table) ≡ table ps = is-table (objAt st (p .table)) (p .entry) h in
       laid-put (p .table) (table (set ps (p .entry) x)) (λ z. omega arith) (λ z. omega (arith, ap tagOf is))
       (ap (λ (n : ℕ). slotsFor (32 * n)) (length-set ps (p .entry) x) ∙ ap sizeOf (sym is))
-
-  pub laid-position : (d : Slot) (i : ℕ) (x : Position) → i < positionsIn st d → Laid (putPosition st d i x)
-  laid-position d i x h =
-      let es : List Position = positionsOf (objAt st d) in
-      let is = is-directory (objAt st d) i h in
-      laid-put d _ (λ z. omega arith) (λ z. omega (arith, ap tagOf is)) (ap (λ (n : ℕ). slotsFor (32 + 8 * n)) (length-set es i x) ∙ ap sizeOf (sym is))
-
-  pub laid-process : (p t d : Slot) → tagOf (objAt st p) ≡ 4 → Laid (put st p (process t d))
-  laid-process p t d h = laid-put p (process t d) (λ z. omega arith) (λ z. omega arith) (ap sizeOf (sym (is-process (objAt st p) h)))
-
-  pub laid-count : (e : Slot) (c : Count) → tagOf (objAt st e) ≡ 5 → Laid (put st e (endpoint c (bootMark (objAt st e))))
-  laid-count e c h = laid-put e _ (λ z. omega arith) (λ z. omega arith) (ap sizeOf (sym (is-endpoint (objAt st e) h)))
-
-  pub laid-clock : (c : ℕ) → Laid (withClock st c)
-  laid-clock c = record { room = w .room; laid = w .laid }
 
   laid-run : (k : ℕ) (ys : List Object) → k < 256 → (tagOf (getD (st .slots) k free) ≡ 1 → ⊥) → k + length ys ≤ 256
       → ((g : Slot) → lay k 0 g (drop k (st .slots)) ≡ true → lay k 0 g (ys ++ drop (length ys) (drop k (st .slots))) ≡ true) → Laid (withSlots st (splice k ys (st .slots)))

@@ -1,11 +1,11 @@
 -- Lists made of pieces: where a piece starts, and what replacing pieces does to the whole. One law serves every write.
 use mathlib.Core.Path.{_≡_, refl, sym, _∙_, ap}
 use mathlib.Core.List.{List, [], _∷_, _++_, append-assoc, append-nil}
-use Prim.Native.Nat.{ℕ, zero, suc, _+_, _*_, _-_, _<_, _≤_}
+use Prim.Native.Nat.{ℕ, zero, suc, _+_, _*_, _<_, _≤_}
 use native.Mathlib.Nat.{add-assoc, zero-add, add-zero, not-suc-le-zero, le-of-suc-le-suc, le-of-lt}
 use native.Mathlib.Omega.{arith}
-use lib.ListN.{length, getD, take, drop, set, length-append, length-take, length-drop, take-append-drop, List·getD-append}
-use lib.Seq.{take-append-le, drop-append-le, take-append-add, drop-append-add, drop-drop, drop-length, length-take-le, drop-at, take-append-seam, getD-drop}
+use lib.ListN.{length, getD, take, drop, set, length-append, length-take, length-drop, take-append-drop}
+use lib.Seq.{take-append-le, drop-append-le, take-append-add, drop-append-add, drop-drop, drop-length, length-take-le, drop-at, take-append-seam}
 use Rattle.state.specs.State.{splice}
 use Rattle.state.specs.Bytes.{each}
 

@@ -10,7 +10,7 @@ use Rattle.state.specs.Layout.{Laid}
 use Rattle.state.specs.Bytes.{placeBytes, tagOf, bytes}
 use Rattle.state.proofs.Write.{is-table, bytes-place}
 use Rattle.state.proofs.Run.{bytes-raze}
-use Rattle.state.proofs.LaidAfter.{laid-place, laid-raise, laid-raze}
+use Rattle.state.proofs.LaidAfter.{laid-place, laid-raise}
 use Rattle.state.proofs.Elsewhere.{place-size, place-tag, raise-stays}
 use Rattle.state.proofs.New.{Vacant}
 
@@ -29,9 +29,6 @@ module _ (st : State) (w : Laid st) (p : Spot) (x : Place) (h : p .entry < entri
     pub bytes-create : bytes (putPlace (raise st s o) p x) ≡ splice (64 * p .table .0 + 32 * p .entry) (placeBytes x) (bytes (raise st s o))
     bytes-create = bytes-place (raise st s o) laid-raised p x raised-entry
 
-    pub laid-create : Laid (putPlace (raise st s o) p x)
-    laid-create = laid-place (raise st s o) laid-raised p x raised-entry
-
   -- ---- the place, and then the object: it stands as it stood
   module _ (s : Slot) (tag : 2 ≤ tagOf (objAt st s)) where
     still : 2 ≤ tagOf (objAt (putPlace st p x) s)
@@ -45,6 +42,3 @@ module _ (st : State) (w : Laid st) (p : Spot) (x : Place) (h : p .entry < entri
         bytes-raze (putPlace st p x) (laid-place st w p x h) s still
         ∙ ap (λ (n : ℕ). zeroed n (bytes (putPlace st p x))) (place-size st p x h s)
         ∙ ap (zeroed (sizeOf (objAt st s))) (bytes-place st w p x h)
-
-    pub laid-delete : Laid (raze (putPlace st p x) s)
-    laid-delete = laid-raze (putPlace st p x) (laid-place st w p x h) s still

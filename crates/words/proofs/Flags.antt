@@ -1,16 +1,15 @@
--- Laws of flags and ranges: both are orders, and a flag of a part is a flag of the whole.
-use mathlib.Core.Path.{_≡_, refl, sym, ap, _∙_, subst}
+-- Laws of flags and ranges: a subset of flags is an order, and a range inside another is four facts.
+use mathlib.Core.Path.{_≡_, sym, ap, _∙_, subst}
 use mathlib.Core.Bool.{true}
-use Prim.Native.Nat.{ℕ, _+_, _*_, _/_, _%_, _^_, _<_, _≤_, min}
+use Prim.Native.Nat.{ℕ, _+_, _*_, _/_, _%_, _<_, _≤_, min}
 use native.Mathlib.Omega.{arith}
-use native.Mathlib.Nat.{le-trans, le-refl}
 use lib.Dec.{eqb, leb}
-use lib.Bits.{bitAnd, and-step, and-self, and-zero-l, and-le-r, and-shr, and-mod}
+use lib.Bits.{bitAnd, and-step, and-self, and-zero-l, and-le-r}
 use lib.Arith.{bin-ind, digits-div, digits-mod}
-use borrow.Author.Tests.{eqb-true, eq-eqb, leb-true, le-leb}
+use borrow.Author.Tests.{eqb-true, eq-eqb, leb-true}
 use Rattle.words.specs.Names.{Kind}
 use Rattle.words.specs.Tests.{_&_}
-use Rattle.words.specs.Rights.{kindNo, objectOf, lowOf, highOf, has, subset, inside}
+use Rattle.words.specs.Rights.{kindNo, objectOf, lowOf, highOf, subset, inside}
 use Rattle.words.proofs.Tests.{and-left, and-right}
 
 and-assoc : (a b c : ℕ) → bitAnd (bitAnd a b) c ≡ bitAnd a (bitAnd b c)
@@ -50,21 +49,7 @@ pub subset-le : (a b : ℕ) → subset a b ≡ true → a ≤ b
 unfolding subset
 subset-le a b h = subst (λ (x : ℕ). x ≤ b) (eqb-true (bitAnd a b) a h) (and-le-r a b)
 
--- a flag of a part is a flag of the whole
-pub has-subset : (a b i : ℕ) → subset a b ≡ true → has a i ≡ true → has b i ≡ true
-unfolding subset has
-has-subset a b i h k = eq-eqb (b / 2 ^ i % 2) 1 (omega (arith, lower))
-  where
-    one : a / 2 ^ i % 2 ≡ 1
-    one = eqb-true (a / 2 ^ i % 2) 1 k
-
-    meet : bitAnd (a / 2 ^ i % 2 ^ 1) (b / 2 ^ i % 2 ^ 1) ≡ a / 2 ^ i % 2
-    meet = sym (and-mod (a / 2 ^ i) (b / 2 ^ i) 1) ∙ ap (λ (x : ℕ). x % 2) (sym (and-shr a b i)) ∙ ap (λ (x : ℕ). x / 2 ^ i % 2) (eqb-true (bitAnd a b) a h)
-
-    lower : 1 ≤ b / 2 ^ i % 2
-    lower = subst (λ (x : ℕ). x ≤ b / 2 ^ i % 2) (meet ∙ one) (and-le-r (a / 2 ^ i % 2 ^ 1) (b / 2 ^ i % 2 ^ 1))
-
--- ---- "kind and object, ... range inside": as facts, and an order
+-- ---- "kind and object, ... range inside": as facts
 pub record Inside (k p : Kind) : Type 0 where
   pub kind : kindNo k ≡ kindNo p
   pub object : objectOf k .0 ≡ objectOf p .0
@@ -82,16 +67,3 @@ inside-facts k p h =
       low = leb-true (lowOf p) (lowOf k) (and-left (leb (lowOf p) (lowOf k)) (leb (highOf k) (highOf p)) r₂);
       high = leb-true (highOf k) (highOf p) (and-right (leb (lowOf p) (lowOf k)) (leb (highOf k) (highOf p)) r₂);
     }
-
-pub facts-inside : (k p : Kind) → Inside k p → inside k p ≡ true
-unfolding inside _&_
-facts-inside k p f = rw (eq-eqb _ _ (f .kind), eq-eqb _ _ (f .object), le-leb _ _ (f .low), le-leb _ _ (f .high))
-
-pub inside-self : (k : Kind) → inside k k ≡ true
-inside-self k = facts-inside k k (record { kind = refl; object = refl; low = le-refl (lowOf k); high = le-refl (highOf k) })
-
-pub inside-trans : (a b c : Kind) → inside a b ≡ true → inside b c ≡ true → inside a c ≡ true
-inside-trans a b c h k =
-    let x = inside-facts a b h in
-    let y = inside-facts b c k in
-    facts-inside a c (record { kind = x .kind ∙ y .kind; object = x .object ∙ y .object; low = le-trans (y .low) (x .low); high = le-trans (x .high) (y .high) })

@@ -7,3 +7,4 @@ pub mod Rights
 pub mod Fields
 pub mod Grants
 pub mod Answers
+pub mod Determined

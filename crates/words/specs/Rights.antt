@@ -141,7 +141,7 @@ has x i = eqb (x / 2 ^ i % 2) 1
 unfoldable pub subset : ℕ → ℕ → Bool
 subset a b = eqb (bitAnd a b) a
 
--- "new flags (a function has none) are non-empty"
+-- "New flags (a function has none) are non-empty"
 abbrev pub someFlag : Kind → ℕ → Bool
 someFlag (Table o) x = leb 1 x
 someFlag (Directory o l h) x = leb 1 x

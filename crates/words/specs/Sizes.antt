@@ -1,5 +1,5 @@
 -- The numbers of document 01 that the rules and the layout share, a name each.
-use Prim.Native.Nat.{ℕ, _+_, _-_, _/_}
+use Prim.Native.Nat.{ℕ, _+_, _/_}
 
 -- "in 256 slots of 64 bytes"
 abbrev pub slotSize : ℕ

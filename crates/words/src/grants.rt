@@ -1,8 +1,16 @@
 // Memory grants: "upper address = P3.D1 over N[15:6] and six zeros, lower = P3.D0 over C[15:6] and six zeros, flags = C[5:0]".
 ghost use mathlib.Core.Path.{_≡_};
 ghost use Rattle.words.specs.Grants.{pack, unpack, told};
+use crate::calls::DELEGATE;
+use crate::fields::HALF;
+use crate::flag_bits::MEMORY_FLAGS;
 use crate::numbers::KernelAddress;
 use crate::refusals::Refusal;
+
+// "six zeros": what a grant's addresses are multiples of. "flags above 63": how many sets of memory flags there are.
+const GRANT_UNIT: u32 = 64;
+
+const FLAG_SETS: u32 = MEMORY_FLAGS + 1;
 
 pub struct Grant {
     pub lower: KernelAddress,
@@ -27,12 +35,12 @@ pub fn unpack_grant(w: Packed) -> Grant
 {
     let nc = w.nc;
     let p3 = w.p3;
-    let lower = KernelAddress(p3 % 65536 * 65536 + nc % 65536 / 64 * 64);
-    let upper = KernelAddress(p3 / 65536 * 65536 + nc / 65536 / 64 * 64);
+    let lower = KernelAddress(p3 % HALF * HALF + nc % HALF / GRANT_UNIT * GRANT_UNIT);
+    let upper = KernelAddress(p3 / HALF * HALF + nc / HALF / GRANT_UNIT * GRANT_UNIT);
     Grant {
         lower,
         upper,
-        flags: nc % 64,
+        flags: nc % FLAG_SETS,
     }
 }
 
@@ -45,17 +53,17 @@ pub fn pack_grant(g: Grant) -> Packing
     let l = lower.0;
     let u = upper.0;
     let f = g.flags;
-    if l % 64 != 0 {
+    if l % GRANT_UNIT != 0 {
         return Packing::Refused(Refusal::CapFlag);
     }
-    if u % 64 != 0 {
+    if u % GRANT_UNIT != 0 {
         return Packing::Refused(Refusal::CapFlag);
     }
-    if 64 <= f {
+    if FLAG_SETS <= f {
         return Packing::Refused(Refusal::CapFlag);
     }
     Packing::Words(Packed {
-        nc: (u % 65536 + 3) * 65536 + (l % 65536 + f),
-        p3: u / 65536 * 65536 + l / 65536,
+        nc: (u % HALF + DELEGATE) * HALF + (l % HALF + f),
+        p3: u / HALF * HALF + l / HALF,
     })
 }

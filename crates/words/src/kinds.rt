@@ -2,22 +2,34 @@
 ghost use mathlib.Core.Path.{_≡_};
 ghost use Rattle.words.specs.Rights.{kindNo, objectOf, lowOf, highOf, allFlags};
 use crate::capabilities::Kind;
+use crate::flag_bits::DIRECTORY_FLAGS;
+use crate::flag_bits::ENDPOINT_FLAGS;
+use crate::flag_bits::FUNCTION_FLAGS;
+use crate::flag_bits::MEMORY_FLAGS;
+use crate::flag_bits::PROCESS_FLAGS;
+use crate::flag_bits::TABLE_FLAGS;
+use crate::layout::DIRECTORY_KIND;
+use crate::layout::ENDPOINT_KIND;
+use crate::layout::FUNCTION_KIND;
+use crate::layout::MEMORY_KIND;
+use crate::layout::PROCESS_KIND;
+use crate::layout::TABLE_KIND;
 use crate::numbers::Slot;
 
 pub fn kind_number(k: Kind) -> u32
     ensures { λ r. ⌜ r ≡ kindNo k ⌝ }
 {
     match k {
-        Kind::Table(_) => 1,
+        Kind::Table(_) => TABLE_KIND,
         Kind::Directory {
             object: _,
             low: _,
             high: _,
-        } => 2,
-        Kind::Memory { low: _, high: _ } => 3,
-        Kind::Process(_) => 4,
-        Kind::Endpoint(_) => 5,
-        Kind::Function { low: _, high: _ } => 6,
+        } => DIRECTORY_KIND,
+        Kind::Memory { low: _, high: _ } => MEMORY_KIND,
+        Kind::Process(_) => PROCESS_KIND,
+        Kind::Endpoint(_) => ENDPOINT_KIND,
+        Kind::Function { low: _, high: _ } => FUNCTION_KIND,
     }
 }
 
@@ -77,15 +89,15 @@ pub fn all_flags(k: Kind) -> u32
     ensures { λ r. ⌜ r ≡ allFlags k ⌝ }
 {
     match k {
-        Kind::Table(_) => 255,
+        Kind::Table(_) => TABLE_FLAGS,
         Kind::Directory {
             object: _,
             low: _,
             high: _,
-        } => 255,
-        Kind::Memory { low: _, high: _ } => 63,
-        Kind::Process(_) => 7,
-        Kind::Endpoint(_) => 63,
-        Kind::Function { low: _, high: _ } => 0,
+        } => DIRECTORY_FLAGS,
+        Kind::Memory { low: _, high: _ } => MEMORY_FLAGS,
+        Kind::Process(_) => PROCESS_FLAGS,
+        Kind::Endpoint(_) => ENDPOINT_FLAGS,
+        Kind::Function { low: _, high: _ } => FUNCTION_FLAGS,
     }
 }

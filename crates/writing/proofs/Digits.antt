@@ -1,7 +1,7 @@
 -- The four bytes of a word, where they are known otherwise: of a number that takes more bits, and of two bytes in a word.
 use mathlib.Core.Path.{_≡_, ap}
 use mathlib.Core.List.{List, [], _∷_, _++_}
-use Prim.Native.Nat.{ℕ, _+_, _*_, _-_, _%_, _^_, _<_}
+use Prim.Native.Nat.{ℕ, _+_, _*_, _%_, _^_, _<_}
 use native.Mathlib.Omega.{arith}
 use Rattle.state.specs.Bytes.{le32, wordsBytes}
 

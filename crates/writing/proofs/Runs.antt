@@ -4,6 +4,7 @@ use mathlib.Core.List.{List, [], _∷_, _++_}
 use Prim.Native.Nat.{ℕ, zero, suc, _+_, _*_, _-_, _<_, _≤_}
 use native.Mathlib.Omega.{arith}
 use lib.ListN.{replicate, replicate-append-replicate}
+use Rattle.words.specs.Sizes.{slotSize, slotCount}
 use Rattle.state.specs.State.{splice, body}
 use Rattle.state.specs.Bytes.{each, le32, wordsBytes, noteOf, noteBytes}
 use Rattle.state.proofs.Zeros.{each-zeros}
@@ -20,7 +21,7 @@ pub run-zeros : (n : ℕ) → wordsBytes (replicate n 0) ≡ replicate (4 * n) 0
 run-zeros n = words-each (replicate n 0) ∙ each-zeros le32 0 4 refl n
 
 -- the notes of later slots
-run-notes : (k : Slot) → k .0 < 256 → (n : ℕ) → wordsBytes (replicate n (1 + 256 * k .0)) ≡ each noteBytes (replicate n (body k))
+run-notes : (k : Slot) → k .0 < slotCount → (n : ℕ) → wordsBytes (replicate n (1 + 256 * k .0)) ≡ each noteBytes (replicate n (body k))
 unfolding each
 run-notes k h zero = refl
 run-notes k h (suc n) =
@@ -29,14 +30,14 @@ run-notes k h (suc n) =
 
 -- ---- the first words stored over a run: three over zeros, one over notes
 pub three-put : (n a b c : ℕ) → 1 ≤ n
-    → splice 8 (le32 c) (splice 4 (le32 b) (splice 0 (le32 a) (wordsBytes (replicate (16 * n) 0)))) ≡ wordsBytes (a ∷ b ∷ c ∷ []) ++ replicate (64 * n - 12) 0
+    → splice 8 (le32 c) (splice 4 (le32 b) (splice 0 (le32 a) (wordsBytes (replicate (16 * n) 0)))) ≡ wordsBytes (a ∷ b ∷ c ∷ []) ++ replicate (slotSize * n - 12) 0
 unfolding splice
 three-put n a b c h =
-    let e : 4 * (16 * n) ≡ 12 + (64 * n - 12) = omega arith in
+    let e : 4 * (16 * n) ≡ 12 + (slotSize * n - 12) = omega arith in
     ap (λ (l : List ℕ). splice 8 (le32 c) (splice 4 (le32 b) (splice 0 (le32 a) l)))
-    (run-zeros (16 * n) ∙ ap (λ (k : ℕ). replicate k 0) e ∙ sym (replicate-append-replicate 12 (64 * n - 12) 0))
+    (run-zeros (16 * n) ∙ ap (λ (k : ℕ). replicate k 0) e ∙ sym (replicate-append-replicate 12 (slotSize * n - 12) 0))
 
-pub notes-put : (k : Slot) (n tag argument : ℕ) → k .0 < 256 → tag < 256 → argument < 256 → 1 ≤ n
+pub notes-put : (k : Slot) (n tag argument : ℕ) → k .0 < slotCount → tag < 256 → argument < 256 → 1 ≤ n
     → splice 0 (le32 (tag + 256 * argument)) (wordsBytes (replicate n (1 + 256 * k .0))) ≡ noteOf tag argument ++ each noteBytes (replicate (n - 1) (body k))
 unfolding splice
 notes-put k n tag argument hk ht ha h =

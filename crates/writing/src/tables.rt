@@ -2,6 +2,7 @@
 ghost use mathlib.Core.Path.{_≡_};
 ghost use Prim.Native.Nat.{_+_, _*_, _≤_};
 ghost use lib.ListN.{length};
+ghost use Rattle.words.specs.Sizes.{slotSize, entrySize};
 ghost use Rattle.words.specs.Rights.{stampOf};
 ghost use Rattle.state.specs.State.{splice};
 ghost use Rattle.state.specs.Bytes.{le32, wordsBytes, frozenNo, parentNo, rightWords, placeBytes};
@@ -14,7 +15,10 @@ use words::kinds::high_of;
 use words::kinds::kind_number;
 use words::kinds::low_of;
 use words::kinds::object_of;
+use words::layout::ENTRY_WORDS;
 use words::numbers::Slot;
+use words::sizes::ENTRY_SIZE;
+use words::sizes::SLOT_SIZE;
 
 fn frozen_number(f: Frost) -> u32
     ensures { λ r. ⌜ r ≡ frozenNo f ⌝ }
@@ -44,7 +48,7 @@ fn parent_number(o: Origin) -> u32
     }
 }
 
-fn right_words(c: Capability) -> [u32; 8]
+fn right_words(c: Capability) -> [u32; ENTRY_WORDS]
     ensures { λ r. ⌜ wordsBytes r ≡ wordsBytes (rightWords c) ⌝ }
 {
     let k = c.kind;
@@ -63,7 +67,7 @@ fn right_words(c: Capability) -> [u32; 8]
     ]
 }
 
-fn place_words(p: Place) -> [u32; 8]
+fn place_words(p: Place) -> [u32; ENTRY_WORDS]
     ensures { λ r. ⌜ wordsBytes r ≡ placeBytes p ⌝ }
 {
     match p {
@@ -74,10 +78,10 @@ fn place_words(p: Place) -> [u32; 8]
 
 // Entry e of the table whose first slot is t.
 pub fn store_place(s: &mut [u8], t: Slot, e: u32, p: Place)
-    requires { ⌜ 64 * t .0 + 32 * e + 32 ≤ length (now s) ⌝ }
-    ensures { λ _. ⌜ now (s .exit) ≡ splice (64 * t .0 + 32 * e) (placeBytes p) (now (s .entry)) ⌝ }
+    requires { ⌜ slotSize * t .0 + entrySize * e + entrySize ≤ length (now s) ⌝ }
+    ensures { λ _. ⌜ now (s .exit) ≡ splice (slotSize * t .0 + entrySize * e) (placeBytes p) (now (s .entry)) ⌝ }
 {
     let o = t.0 as usize;
     let ws = place_words(p);
-    store_words(s, 64 * o + 32 * (e as usize), &ws[..]);
+    store_words(s, SLOT_SIZE * o + ENTRY_SIZE * (e as usize), &ws[..]);
 }

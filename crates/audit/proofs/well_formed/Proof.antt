@@ -17,7 +17,7 @@ used-requires : tie.Need-used-requires
 used-requires c κs = search needs
 
 laid-out-requires : tie.Need-laid-out-requires
-laid-out-requires c κs = (c .before .if1 .left, c .used .ensures)
+laid-out-requires c κs = (c .before .if1 .left, c .used .ensures .vacant)
 
 returns-2 : tie.Need-returns-2
 returns-2 c =
@@ -29,7 +29,7 @@ canonical-requires : tie.Need-canonical-requires
 canonical-requires c κs =
     let size = c .before .before .before .if1 .left in
     let laid = sym (c .before .laid-out .ensures) ∙ not-false _ (c .if2 .left) in
-    (size, laid, c .before .before .used .ensures)
+    (size, laid, c .before .before .used .ensures .vacant)
 
 returns-3 : tie.Need-returns-3
 returns-3 c =
@@ -45,7 +45,7 @@ objects-ok-requires : tie.Need-objects-ok-requires
 objects-ok-requires c κs =
     let size = c .before .before .before .before .before .before .before .before .if1 .left in
     let laid = sym (c .before .before .before .before .before .before .laid-out .ensures) ∙ not-false _ (c .before .before .before .before .before .if2 .left) in
-    (size, laid, c .before .list-heads .ensures)
+    (size, laid, c .before .list-heads .ensures .heads)
 
 returns-4 : tie.Need-returns-4
 returns-4 c =
@@ -59,7 +59,7 @@ rights-ok-requires : tie.Need-rights-ok-requires
 rights-ok-requires c κs =
     let size = c .before .before .before .before .before .before .before .before .before .before .before .if1 .left in
     let laid = sym (c .before .before .before .before .before .before .before .before .before .laid-out .ensures) ∙ not-false _ (c .before .before .before .before .before .before .before .before .if2 .left) in
-    (size, laid, c .before .before .before .before .list-heads .ensures)
+    (size, laid, c .before .before .before .before .list-heads .ensures .heads)
 
 returns-5 : tie.Need-returns-5
 returns-5 c =
@@ -75,7 +75,7 @@ roots-ok-requires c κs =
     let size = c .before .before .before .before .before .before .before .before .before .before .before .before .before .before .if1 .left in
     let laid = sym (c .before .before .before .before .before .before .before .before .before .before .before .before .laid-out .ensures) ∙ not-false _ (c .before .before .before .before .before .before .before .before .before .before .before .if2 .left) in
     let rights = sym (c .before .before .rights-ok .ensures) ∙ not-false _ (c .before .if5 .left) in
-    (roots-ready (now (c .before .before .before .before .before .before .before .before .before .before .before .before .before .before .before .before .args .s)) size laid rights, c .before .before .before .before .before .before .before .list-heads .ensures)
+    (roots-ready (now (c .before .before .before .before .before .before .before .before .before .before .before .before .before .before .before .before .args .s)) size laid rights, c .before .before .before .before .before .before .before .list-heads .ensures .heads)
 
 returns-6 : tie.Need-returns-6
 returns-6 c =
@@ -89,21 +89,21 @@ returns-6 c =
 
 chains-ok-requires : tie.Need-chains-ok-requires
 chains-ok-requires c κs =
-    let size = c .before .before .before .before .before .before .before .before .before .before .before .before .before .before .before .before .if1 .left in
-    let laid = sym (c .before .before .before .before .before .before .before .before .before .before .before .before .before .before .laid-out .ensures) ∙ not-false _ (c .before .before .before .before .before .before .before .before .before .before .before .before .before .if2 .left) in
-    let rights = sym (c .before .before .before .before .rights-ok .ensures) ∙ not-false _ (c .before .before .before .if5 .left) in
-    chains-ready (now (c .before .before .before .before .before .before .before .before .before .before .before .before .before .before .before .before .before .before .args .s)) size laid rights
+    let size = c .before .before .before .before .before .before .before .before .before .before .before .before .before .before .before .before .before .if1 .left in
+    let laid = sym (c .before .before .before .before .before .before .before .before .before .before .before .before .before .before .before .laid-out .ensures) ∙ not-false _ (c .before .before .before .before .before .before .before .before .before .before .before .before .before .before .if2 .left) in
+    let rights = sym (c .before .before .before .before .before .rights-ok .ensures) ∙ not-false _ (c .before .before .before .before .if5 .left) in
+    (chains-ready (now (c .before .before .before .before .before .before .before .before .before .before .before .before .before .before .before .before .before .before .before .args .s)) size laid rights, c .before .before .before .before .before .before .before .before .before .before .list-heads .ensures .heads)
 
 returns-7 : tie.Need-returns-7
 returns-7 c =
-    let size = c .before .before .before .before .before .before .before .before .before .before .before .before .before .before .before .before .before .if1 .left in
-    let laid = sym (c .before .before .before .before .before .before .before .before .before .before .before .before .before .before .before .laid-out .ensures) ∙ not-false _ (c .before .before .before .before .before .before .before .before .before .before .before .before .before .before .if2 .left) in
-    let clean = sym (c .before .before .before .before .before .before .before .before .before .before .before .before .before .canonical .ensures) ∙ not-false _ (c .before .before .before .before .before .before .before .before .before .before .before .before .if3 .left) in
-    let objects = sym (c .before .before .before .before .before .before .before .before .objects-ok .ensures) ∙ not-false _ (c .before .before .before .before .before .before .before .if4 .left) in
-    let rights = sym (c .before .before .before .before .before .rights-ok .ensures) ∙ not-false _ (c .before .before .before .before .if5 .left) in
-    let roots = sym (c .before .before .roots-ok .ensures) ∙ not-false _ (c .before .if6 .left) in
+    let size = c .before .before .before .before .before .before .before .before .before .before .before .before .before .before .before .before .before .before .if1 .left in
+    let laid = sym (c .before .before .before .before .before .before .before .before .before .before .before .before .before .before .before .before .laid-out .ensures) ∙ not-false _ (c .before .before .before .before .before .before .before .before .before .before .before .before .before .before .before .if2 .left) in
+    let clean = sym (c .before .before .before .before .before .before .before .before .before .before .before .before .before .before .canonical .ensures) ∙ not-false _ (c .before .before .before .before .before .before .before .before .before .before .before .before .before .if3 .left) in
+    let objects = sym (c .before .before .before .before .before .before .before .before .before .objects-ok .ensures) ∙ not-false _ (c .before .before .before .before .before .before .before .before .if4 .left) in
+    let rights = sym (c .before .before .before .before .before .before .rights-ok .ensures) ∙ not-false _ (c .before .before .before .before .before .if5 .left) in
+    let roots = sym (c .before .before .before .roots-ok .ensures) ∙ not-false _ (c .before .before .if6 .left) in
     c .chains-ok .ensures
-    ∙ sym (in-order (now (c .before .before .before .before .before .before .before .before .before .before .before .before .before .before .before .before .before .before .before .args .s)) (c .before .before .before .before .before .before .before .before .before .before .before .before .before .before .before .before .before .before .shared-slice-known .given) ∙ and-yes _ _ (eq-eqb _ _ size) ∙ and-yes _ _ laid ∙ and-yes _ _ clean ∙ and-yes _ _ objects ∙ and-yes _ _ rights ∙ and-yes _ _ roots)
+    ∙ sym (in-order (now (c .before .before .before .before .before .before .before .before .before .before .before .before .before .before .before .before .before .before .before .before .args .s)) (c .before .before .before .before .before .before .before .before .before .before .before .before .before .before .before .before .before .before .before .shared-slice-known .given) ∙ and-yes _ _ (eq-eqb _ _ size) ∙ and-yes _ _ laid ∙ and-yes _ _ clean ∙ and-yes _ _ objects ∙ and-yes _ _ rights ∙ and-yes _ _ roots)
 
 pub well-formed-spec : {M : Type 1} → statement M
 well-formed-spec =

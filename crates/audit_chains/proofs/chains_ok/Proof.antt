@@ -1,62 +1,60 @@
--- `audit_chains::chains_ok` meets its contract: each slot is asked in turn, with no mark at first.
+-- `audit_chains::chains_ok` meets its contract: each listed table is asked in turn, with no mark at first, and the other slots have no entry.
 use mathlib.Core.Bool.{true}
-use mathlib.Core.Path.{ap, sym, _∙_, _≡_}
-use Prim.Native.Nat.{_-_, ℕ, _≤_}
+use mathlib.Core.Path.{sym, _∙_, _≡_}
+use Prim.Native.Nat.{_-_, _≤_}
 use native.Mathlib.Numerals.{add-one}
 use native.Mathlib.Omega.{arith}
+use lib.ListN.{getD}
 use borrow.Author.Needs.{needs}
 use borrow.Author.Tests.{not-false, not-true}
 use denote.Ref.{now}
-use Rattle.rules.specs.WellFormed.{everyPlace}
 use Rattle.state.specs.Read.{read}
-use Rattle.state.specs.State.{entriesIn, placeAt}
 use Rattle.words.proofs.Tests.{all-more, all-not, all-zero}
 use Rattle.words.specs.Fields.{slot}
 use Rattle.words.specs.Tests.{allBelow}
-use Rattle.audit_chains.specs.Chains.{Shown, placeChained}
+use Rattle.audit_chains.specs.Chains.{Shown}
+use Rattle.audit_chains.proofs.Table.{listed-chained, tableChained}
 use Rattle.audit_chains.proofs.Walk.{shown-none}
 use Rattle.audit_chains.proofs.chains_ok.Statement.{statement}
 use Rattle.audit_chains.proofs.chains_ok.Tie as tie
 
 abbrev Inv-loop : tie.InvT-loop
-Inv-loop s marks₀ k₀ marks k = (k ≤ 256) × (allBelow k (λ i. allBelow (entriesIn (read s) (slot i)) (λ e. placeChained (read s) (placeAt (read s) (slot i) e))) ≡ true) × Shown (read s) marks
+Inv-loop s heads n marks₀ i₀ marks i = (i ≤ n) × (allBelow i (λ j. tableChained (read s) (slot (getD heads j 0))) ≡ true) × Shown (read s) marks
 
 abbrev μ-loop : tie.MeasureT-loop
-μ-loop s marks₀ k₀ marks k = 256 - k
+μ-loop s heads n marks₀ i₀ marks i = n - i
 
 loop-holds : tie.Need-loop-holds Inv-loop μ-loop
 loop-holds c = (search needs, all-zero _, shown-none _)
 
-cast-t5 : tie.Need-cast-t5 Inv-loop μ-loop
-cast-t5 c = search needs
+element-copy-out-t9 : tie.Need-element-copy-out-t9 Inv-loop μ-loop
+element-copy-out-t9 c = search needs
 
 slot-chained-requires : tie.Need-slot-chained-requires Inv-loop μ-loop
-slot-chained-requires c κs = (c .before .before .before .before .pre, c .before .before .loop .inv .2)
+slot-chained-requires c κs = (c .before .before .before .before .before .pre .0, c .before .before .before .loop .inv .2)
 
 returns : tie.Need-returns Inv-loop μ-loop
-unfolding everyPlace
-returns c = let a = c .before .before .before .before .before .before .args in
-    let l = c .before .before .before .before .loop in
-    sym (all-not 256 (λ i. allBelow (entriesIn (read (now (a .s))) (slot i)) (λ e. placeChained (read (now (a .s))) (placeAt (read (now (a .s))) (slot i) e))) (l .k) (c .before .before .before .loop-test .taken) (sym (c .before .slot-chained .ensures .0) ∙ not-true _ (c .if1 .taken)))
+returns c = let A = c .before .before .before .before .before .before .before in
+    let l = c .before .before .before .before .before .loop in
+    let one = sym (c .before .slot-chained .ensures .0) ∙ not-true _ (c .if1 .taken) in
+    sym (sym (listed-chained (now (A .args .s)) (now (A .args .heads)) (A .args .n) (A .pre .1)) ∙ all-not (A .args .n) _ (l .i) (c .before .before .before .before .loop-test .taken) one)
 
-add-k : tie.Need-add-k Inv-loop μ-loop
-add-k c = search needs
+add-i : tie.Need-add-i Inv-loop μ-loop
+add-i c = search needs
 
 loop-less : tie.Need-loop-less Inv-loop μ-loop
 loop-less c = search needs
 
 loop-again : tie.Need-loop-again Inv-loop μ-loop
-loop-again c = let a = c .before .before .before .before .before .before .args in
-    let l = c .before .before .before .before .loop in
+loop-again c = let l = c .before .before .before .before .before .loop in
     let r = c .before .slot-chained .ensures in
-    (search needs, rw (add-one (l .k)) (all-more (l .k) (λ i. allBelow (entriesIn (read (now (a .s))) (slot i)) (λ e. placeChained (read (now (a .s))) (placeAt (read (now (a .s))) (slot i) e))) (l .inv .1) (sym (r .0) ∙ not-false _ (c .if1 .left))), r .1)
+    (search needs, rw (add-one (l .i)) (all-more (l .i) _ (l .inv .1) (sym (r .0) ∙ not-false _ (c .if1 .left))), r .1)
 
 returns-2 : tie.Need-returns-2 Inv-loop μ-loop
-unfolding everyPlace
-returns-2 c = let a = c .before .before .before .args in
+returns-2 c = let A = c .before .before .before in
     let l = c .before .loop in
-    let done : l .k ≡ 256 = omega arith in
-    sym (ap (λ (m : ℕ). allBelow m (λ i. allBelow (entriesIn (read (now (a .s))) (slot i)) (λ e. placeChained (read (now (a .s))) (placeAt (read (now (a .s))) (slot i) e)))) (sym done) ∙ l .inv .1)
+    let e : l .i ≡ A .args .n = omega arith in
+    sym (sym (listed-chained (now (A .args .s)) (now (A .args .heads)) (A .args .n) (A .pre .1)) ∙ rw e at (l .inv .1))
 
 pub chains-ok-spec : {M : Type 1} → statement M
 chains-ok-spec =
@@ -65,10 +63,10 @@ chains-ok-spec =
     Inv-loop
     μ-loop
     loop-holds
-    cast-t5
+    element-copy-out-t9
     slot-chained-requires
     returns
-    add-k
+    add-i
     loop-less
     loop-again
     returns-2)

@@ -5,12 +5,13 @@ use native.Mathlib.Omega.{arith}
 use native.Mathlib.Numerals.{add-one}
 use lib.ListN.{length}
 use borrow.Author.Needs.{needs}
+use Rattle.words.specs.Sizes.{stateLength}
 use Rattle.boot.specs.Stages.{withPages}
 use Rattle.boot.proofs.store_pages.Statement.{statement}
 use Rattle.boot.proofs.store_pages.Tie as tie
 
 abbrev Inv-loop : tie.InvT-loop
-Inv-loop s₀ i₀ s i = (s ≡ withPages i s₀) × (i ≤ 8) × (length s ≡ 17472)
+Inv-loop s₀ i₀ s i = (s ≡ withPages i s₀) × (i ≤ 8) × (length s ≡ stateLength)
 
 abbrev μ-loop : tie.MeasureT-loop
 μ-loop s₀ i₀ s i = 8 - i

@@ -1,6 +1,6 @@
 -- `audit_bytes::directories::directory_stands` meets its contract: its tests are those of `directory-stands`, in that order.
 use mathlib.Core.Path.{sym, ap, _∙_}
-use Prim.Native.Nat.{ℕ, _-_}
+use Prim.Native.Nat.{ℕ}
 use lib.Dec.{leb}
 use borrow.Author.Tests.{le-leb, lt-leb, not-true, not-false}
 use borrow.Author.Needs.{needs}

@@ -1,6 +1,6 @@
 -- `audit_bytes::objects::process_stands` meets its contract: its tests are those of `process-stands`, in that order.
 use mathlib.Core.Path.{sym, ap, _∙_}
-use Prim.Native.Nat.{ℕ, _-_}
+use Prim.Native.Nat.{ℕ}
 use lib.Dec.{ltb}
 use borrow.Author.Tests.{le-ltb, lt-ltb}
 use borrow.Author.Needs.{needs}

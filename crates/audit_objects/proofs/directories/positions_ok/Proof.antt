@@ -14,8 +14,6 @@ use Rattle.rules.specs.WellFormed.{positionOk}
 use Rattle.audit_objects.proofs.directories.positions_ok.Statement.{statement}
 use Rattle.audit_objects.proofs.directories.positions_ok.Tie as tie
 
--- `audit_objects::directories::positions_ok` meets its contract: the positions passed so far are as they must be.
-
 abbrev Inv-loop : tie.InvT-loop
 Inv-loop s g p n i₀ i = (i ≤ n) × (allBelow i (λ j. positionOk (read s) g (positionOf p (headerSize + positionSize * j))) ≡ true)
 

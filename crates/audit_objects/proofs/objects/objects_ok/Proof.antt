@@ -19,13 +19,13 @@ use Rattle.audit_objects.proofs.objects.objects_ok.Statement.{statement
 use Rattle.audit_objects.proofs.objects.objects_ok.Tie as tie
 
 abbrev Inv-loop : tie.InvT-loop
-Inv-loop s heads n i₀ i = (i ≤ n) × (allBelow i (λ j. objectOk (read s) (slot (getD heads j 0)) (objAt (read s) (slot (getD heads j 0)))) ≡ true)
+Inv-loop s heads n i₀ i = (allBelow i (λ j. objectOk (read s) (slot (getD heads j 0)) (objAt (read s) (slot (getD heads j 0)))) ≡ true) × (i ≤ n)
 
 abbrev μ-loop : tie.MeasureT-loop
 μ-loop s heads n i₀ i = n - i
 
 loop-holds : tie.Need-loop-holds Inv-loop μ-loop
-loop-holds c = (search needs, all-zero _)
+loop-holds c = (all-zero _, search needs)
 
 element-copy-out-t8 : tie.Need-element-copy-out-t8 Inv-loop μ-loop
 element-copy-out-t8 c = search needs
@@ -49,14 +49,14 @@ loop-less c = search needs
 loop-again : tie.Need-loop-again Inv-loop μ-loop
 loop-again c = let l = c .before .before .before .before .loop in
     let one = sym (c .before .object-ok .ensures) ∙ not-false _ (c .if1 .left) in
-    (search needs, rw (add-one (l .i)) (all-more (l .i) _ (l .inv .1) one))
+    (rw (add-one (l .i)) (all-more (l .i) _ (l .inv .0) one), search needs)
 
 returns-2 : tie.Need-returns-2 Inv-loop μ-loop
 unfolding everyObject objectOk
 returns-2 c = let A = c .before .before .before in
     let l = c .before .loop in
     let e : l .i ≡ A .args .n = omega arith in
-    sym (sym (heads-objects (now (A .args .s)) _ (A .args .n) (A .pre .2) (objectOk (read (now (A .args .s)))) (λ k. refl) (λ k f. refl)) ∙ rw e at (l .inv .1))
+    sym (sym (heads-objects (now (A .args .s)) _ (A .args .n) (A .pre .2) (objectOk (read (now (A .args .s)))) (λ k. refl) (λ k f. refl)) ∙ rw e at (l .inv .0))
 
 pub objects-ok-spec : {M : Type 1} → statement M
 objects-ok-spec =

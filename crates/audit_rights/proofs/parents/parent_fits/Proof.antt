@@ -11,8 +11,6 @@ use Rattle.audit_rights.proofs.Compared.{parent-words}
 use Rattle.audit_rights.proofs.parents.parent_fits.Statement.{statement}
 use Rattle.audit_rights.proofs.parents.parent_fits.Tie as tie
 
--- `audit_rights::parents::parent_fits` meets its contract: the words compared are those of the entry.
-
 kind-number-requires : tie.Need-kind-number-requires
 kind-number-requires c κs = search needs
 

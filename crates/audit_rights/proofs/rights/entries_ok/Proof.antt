@@ -15,8 +15,6 @@ use Rattle.audit_rights.specs.ButChain.{rightButChain}
 use Rattle.audit_rights.proofs.rights.entries_ok.Statement.{statement}
 use Rattle.audit_rights.proofs.rights.entries_ok.Tie as tie
 
--- `audit_rights::rights::entries_ok` meets its contract: the entries passed so far are as they must be.
-
 abbrev Inv-loop : tie.InvT-loop
 Inv-loop s p n e₀ e = (e ≤ n) × (allBelow e (λ j. right (rightButChain (read s)) (placeOf p (entrySize * j))) ≡ true)
 

@@ -8,8 +8,6 @@ use Rattle.audit_rights.proofs.Compared.{entry-blank, entry-right}
 use Rattle.audit_rights.proofs.rights.entry_ok.Statement.{statement}
 use Rattle.audit_rights.proofs.rights.entry_ok.Tie as tie
 
--- `audit_rights::rights::entry_ok` meets its contract: an entry of no kind is blank, and any other is a right of the kind that its first word tells.
-
 word-in-requires : tie.Need-word-in-requires
 word-in-requires c κs = search needs
 

@@ -9,8 +9,6 @@ use Rattle.audit_rights.proofs.Standing.{right-parts}
 use Rattle.audit_rights.proofs.rights.right_ok.Statement.{statement}
 use Rattle.audit_rights.proofs.rights.right_ok.Tie as tie
 
--- `audit_rights::rights::right_ok` meets its contract: its three questions are the parts of `rightButChain`.
-
 stands-requires : tie.Need-stands-requires
 stands-requires c κs = search needs
 

@@ -3,7 +3,7 @@ use Prim.Native.Nat.{_+_, _*_, _^_}
 use native.Mathlib.Omega.{arith}
 use borrow.Author.Needs.{needs}
 use denote.Ref.{now}
-use Rattle.words.specs.Sizes.{slotsFor}
+use Rattle.words.specs.Sizes.{headerSize, positionSize, slotsFor}
 use Rattle.committing.proofs.Laws.{new-room, entry-room, directory-made}
 use Rattle.committing.proofs.creations.commit_create_directory.Statement.{statement}
 use Rattle.committing.proofs.creations.commit_create_directory.Tie as tie
@@ -32,7 +32,7 @@ sub-t8 c = search needs
 raise-requires : tie.Need-raise-requires
 raise-requires c κs = let z = c .before .before .before .before .before in
     let a = z .args in
-    let r = new-room (now (a .s)) (z .pre .0) (a .first) (slotsFor (32 + 8 * 2 ^ (a .shape .number))) (z .pre .1 .site .fits) in
+    let r = new-room (now (a .s)) (z .pre .0) (a .first) (slotsFor (headerSize + positionSize * 2 ^ (a .shape .number))) (z .pre .1 .site .fits) in
     rw (c .before .before .before .positions-for .ensures .0) (r .0, (r .1, (omega arith, entry-room (now (a .s)) (z .pre .0) (a .at) (z .pre .1 .site .entry))))
 
 same-length : tie.Need-same-length

@@ -3,7 +3,7 @@ use Prim.Native.Nat.{_*_}
 use native.Mathlib.Omega.{arith}
 use borrow.Author.Needs.{needs}
 use denote.Ref.{now}
-use Rattle.words.specs.Sizes.{slotsFor}
+use Rattle.words.specs.Sizes.{entrySize, slotsFor}
 use Rattle.committing.proofs.Laws.{new-room, entry-room, table-made}
 use Rattle.committing.proofs.creations.commit_create_table.Statement.{statement}
 use Rattle.committing.proofs.creations.commit_create_table.Tie as tie
@@ -20,7 +20,7 @@ cast-t9 c = search needs
 raise-requires : tie.Need-raise-requires
 raise-requires c κs = let z = c .before .before in
     let a = z .args in
-    let r = new-room (now (a .s)) (z .pre .0) (a .first) (slotsFor (32 * a .entries)) (z .pre .1 .site .fits) in
+    let r = new-room (now (a .s)) (z .pre .0) (a .first) (slotsFor (entrySize * a .entries)) (z .pre .1 .site .fits) in
     (r .0, (r .1, (omega (arith, z .pre .1 .some), entry-room (now (a .s)) (z .pre .0) (a .at) (z .pre .1 .site .entry))))
 
 same-length : tie.Need-same-length

@@ -6,8 +6,6 @@ use Rattle.rules.specs.Places.{toDelete}
 use Rattle.judging_deletions.proofs.deletions.table_to_delete.Statement.{statement}
 use Rattle.judging_deletions.proofs.deletions.table_to_delete.Tie as tie
 
--- `judging_deletions::deletions::table_to_delete` meets its contract: each return rewrites with the steps that led there.
-
 frozen-at-requires : tie.Need-frozen-at-requires
 frozen-at-requires c κs = search needs
 

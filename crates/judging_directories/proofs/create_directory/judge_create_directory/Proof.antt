@@ -45,6 +45,9 @@ returns-2 : tie.Need-returns-2
 unfolding createDirectory _>>=_ _>>_ need
 returns-2 c = rw (c .why-stretch .ensures, ← (rw (c .before .before .before .before .before .before .before .before .before .number-in-c .ensures) at (c .before .before .before .before .before .before .before .before .table-arg .ensures)), c .before .before .before .before .before .before .a .given .1, ← (rw (c .before .before .before .before .number-in-d1 .ensures) at (c .before .before .before .memory-arg .ensures)), c .before .enum-told2 .given .1)
 
+q1-requires : tie.Need-q1-requires
+q1-requires c κs = search needs
+
 to-fill-requires : tie.Need-to-fill-requires
 to-fill-requires c κs = search needs
 
@@ -59,7 +62,7 @@ why-spot-requires c κs = search needs
 
 returns-3 : tie.Need-returns-3
 unfolding createDirectory _>>=_ _>>_ need
-returns-3 c = rw (c .why-spot .ensures, ← (rw (c .before .before .before .before .before .before .before .before .before .before .before .before .before .before .number-in-c .ensures) at (c .before .before .before .before .before .before .before .before .before .before .before .before .before .table-arg .ensures)), c .before .before .before .before .before .before .before .before .before .before .before .a .given .1, ← (rw (c .before .before .before .before .before .before .before .before .before .number-in-d1 .ensures) at (c .before .before .before .before .before .before .before .before .memory-arg .ensures)), c .before .before .before .before .before .before .b .given .1, ← c .before .before .before .to-fill .ensures, c .before .enum-told3 .given .1)
+returns-3 c = rw (c .why-spot .ensures, ← (rw (c .before .before .before .before .before .before .before .before .before .before .before .before .before .before .number-in-c .ensures) at (c .before .before .before .before .before .before .before .before .before .before .before .before .before .table-arg .ensures)), c .before .before .before .before .before .before .before .before .before .before .before .a .given .1, ← (rw (c .before .before .before .before .before .before .before .before .before .number-in-d1 .ensures) at (c .before .before .before .before .before .before .before .before .memory-arg .ensures)), c .before .before .before .before .before .before .b .given .1, ← (rw (c .before .before .before .before .q1 .ensures) at (c .before .before .before .to-fill .ensures)), c .before .enum-told3 .given .1)
 
 shape-asked-requires : tie.Need-shape-asked-requires
 shape-asked-requires c κs = search needs
@@ -72,7 +75,7 @@ shape-and-place-requires c κs = memory-found _ _ _ _ (c .before .before .before
 
 returns-4 : tie.Need-returns-4
 unfolding createDirectory shapeAndPlace _>>=_ _>>_ need
-returns-4 c = rw (← (rw (c .before .before .before .before .before .before .before .before .before .before .before .before .before .before .before .before .before .number-in-c .ensures) at (c .before .before .before .before .before .before .before .before .before .before .before .before .before .before .before .before .table-arg .ensures)), c .before .before .before .before .before .before .before .before .before .before .before .before .before .before .a .given .1, ← (rw (c .before .before .before .before .before .before .before .before .before .before .before .before .number-in-d1 .ensures) at (c .before .before .before .before .before .before .before .before .before .before .before .memory-arg .ensures)), c .before .before .before .before .before .before .before .before .before .b .given .1, ← c .before .before .before .before .before .before .to-fill .ensures, c .before .before .before .before .l .given .1) ((rw (c .before .before .shape-asked .ensures) at ((rw (c .before .address-in-word .ensures) at (c .shape-and-place .ensures)))))
+returns-4 c = rw (← (rw (c .before .before .before .before .before .before .before .before .before .before .before .before .before .before .before .before .before .number-in-c .ensures) at (c .before .before .before .before .before .before .before .before .before .before .before .before .before .before .before .before .table-arg .ensures)), c .before .before .before .before .before .before .before .before .before .before .before .before .before .before .a .given .1, ← (rw (c .before .before .before .before .before .before .before .before .before .before .before .before .number-in-d1 .ensures) at (c .before .before .before .before .before .before .before .before .before .before .before .memory-arg .ensures)), c .before .before .before .before .before .before .before .before .before .b .given .1, ← (rw (c .before .before .before .before .before .before .before .q1 .ensures) at (c .before .before .before .before .before .before .to-fill .ensures)), c .before .before .before .before .l .given .1) ((rw (c .before .before .shape-asked .ensures) at ((rw (c .before .address-in-word .ensures) at (c .shape-and-place .ensures)))))
 
 pub judge-create-directory-spec : {M : Type 1} → statement M
 judge-create-directory-spec =
@@ -90,6 +93,7 @@ judge-create-directory-spec =
     enum-told-2
     why-stretch-requires
     returns-2
+    q1-requires
     to-fill-requires
     enum-known-l
     enum-told-3

@@ -3,14 +3,20 @@ use borrow.Author.Needs.{needs}
 use Rattle.judging_directories.proofs.geometry.shape_asked.Statement.{statement}
 use Rattle.judging_directories.proofs.geometry.shape_asked.Tie as tie
 
+mul-start : tie.Need-mul-start
+mul-start c = search needs
+
+q0-requires : tie.Need-q0-requires
+q0-requires c κs = search needs
+
+number-order-requires : tie.Need-number-order-requires
+number-order-requires c κs = search needs
+
 has-flag-requires : tie.Need-has-flag-requires
 has-flag-requires c κs = search needs
 
-mul-t7 : tie.Need-mul-t7
-mul-t7 c = search needs
-
 returns : tie.Need-returns
-returns c = rw (c .before .has-flag .ensures)
+returns c = rw (c .before .before .q0 .ensures, c .before .number-order .ensures, c .has-flag .ensures)
 
 pub shape-asked-spec : {M : Type 1} → statement M
-shape-asked-spec = tie.close (tie.spec has-flag-requires mul-t7 returns)
+shape-asked-spec = tie.close (tie.spec mul-start q0-requires number-order-requires has-flag-requires returns)

@@ -42,24 +42,27 @@ returns-2 : tie.Need-returns-2
 unfolding function _>>=_ _>>_ need _&_
 returns-2 c = rw (c .why-range .ensures, ← (rw (c .before .before .before .before .before .before .before .before .number-in-c .ensures) at (c .before .before .before .before .before .before .before .look-up .ensures)), c .before .before .before .before .before .l .given .1, ← c .before .before .before .as-function .ensures, c .before .enum-told2 .given .1)
 
+d0-requires : tie.Need-d0-requires
+d0-requires c κs = search needs
+
 returns-3 : tie.Need-returns-3
 unfolding function _>>=_ _>>_ need _&_
-returns-3 c = rw (← (rw (c .before .before .before .before .before .before .before .before .before .before .before .number-in-c .ensures) at (c .before .before .before .before .before .before .before .before .before .before .look-up .ensures)), c .before .before .before .before .before .before .before .before .l .given .1, ← c .before .before .before .before .before .before .as-function .ensures, c .before .before .before .before .a .given .1, c .before .before .struct-known .given .1, c .before .struct-known2 .given .1, lt-leb _ _ (c .if1 .taken))
+returns-3 c = rw (← (rw (c .before .before .before .before .before .before .before .before .before .before .before .number-in-c .ensures) at (c .before .before .before .before .before .before .before .before .before .before .look-up .ensures)), c .before .before .before .before .before .before .before .before .l .given .1, ← c .before .before .before .before .before .before .as-function .ensures, c .before .before .before .before .a .given .1, ← c .before .before .d0 .ensures, c .before .struct-known .given .1, lt-leb _ _ (c .if1 .taken))
 
 returns-4 : tie.Need-returns-4
 unfolding function _>>=_ _>>_ need _&_
-returns-4 c = rw (← (rw (c .before .before .before .before .before .before .before .before .before .before .before .before .before .number-in-c .ensures) at (c .before .before .before .before .before .before .before .before .before .before .before .before .look-up .ensures)), c .before .before .before .before .before .before .before .before .before .before .l .given .1, ← c .before .before .before .before .before .before .before .before .as-function .ensures, c .before .before .before .before .before .before .a .given .1, c .before .before .before .before .struct-known .given .1, c .before .before .before .struct-known2 .given .1, le-leb _ _ (c .before .before .if1 .left), c .before .struct-known3 .given .1, lt-leb _ _ (c .if2 .taken))
+returns-4 c = rw (← (rw (c .before .before .before .before .before .before .before .before .before .before .before .before .before .number-in-c .ensures) at (c .before .before .before .before .before .before .before .before .before .before .before .before .look-up .ensures)), c .before .before .before .before .before .before .before .before .before .before .l .given .1, ← c .before .before .before .before .before .before .before .before .as-function .ensures, c .before .before .before .before .before .before .a .given .1, ← c .before .before .before .before .d0 .ensures, c .before .before .before .struct-known .given .1, le-leb _ _ (c .before .before .if1 .left), c .before .struct-known2 .given .1, lt-leb _ _ (c .if2 .taken))
 
 returns-5 : tie.Need-returns-5
 unfolding function _>>=_ _>>_ need _&_
-returns-5 c = rw (← (rw (c .before .before .before .before .before .before .before .before .before .before .before .before .before .before .number-in-c .ensures) at (c .before .before .before .before .before .before .before .before .before .before .before .before .before .look-up .ensures)), c .before .before .before .before .before .before .before .before .before .before .before .l .given .1, ← c .before .before .before .before .before .before .before .before .before .as-function .ensures, c .before .before .before .before .before .before .before .a .given .1, c .before .before .before .before .before .struct-known .given .1, c .before .before .before .before .struct-known2 .given .1, le-leb _ _ (c .before .before .before .if1 .left), c .before .before .struct-known3 .given .1, le-leb _ _ (c .before .if2 .left), ne-eqb _ _ (c .if3 .taken))
+returns-5 c = rw (← (rw (c .before .before .before .before .before .before .before .before .before .before .before .before .before .before .number-in-c .ensures) at (c .before .before .before .before .before .before .before .before .before .before .before .before .before .look-up .ensures)), c .before .before .before .before .before .before .before .before .before .before .before .l .given .1, ← c .before .before .before .before .before .before .before .before .before .as-function .ensures, c .before .before .before .before .before .before .before .a .given .1, ← c .before .before .before .before .before .d0 .ensures, c .before .before .before .before .struct-known .given .1, le-leb _ _ (c .before .before .before .if1 .left), c .before .before .struct-known2 .given .1, le-leb _ _ (c .before .if2 .left), ne-eqb _ _ (c .if3 .taken))
 
 clock-requires : tie.Need-clock-requires
 clock-requires c κs = search needs
 
 returns-6 : tie.Need-returns-6
 unfolding function _>>=_ _>>_ need _&_
-returns-6 c = rw (← (rw (c .before .before .before .before .before .before .before .before .before .before .before .before .before .before .before .number-in-c .ensures) at (c .before .before .before .before .before .before .before .before .before .before .before .before .before .before .look-up .ensures)), c .before .before .before .before .before .before .before .before .before .before .before .before .l .given .1, ← c .before .before .before .before .before .before .before .before .before .before .as-function .ensures, c .before .before .before .before .before .before .before .before .a .given .1, c .before .before .before .before .before .before .struct-known .given .1, c .before .before .before .before .before .struct-known2 .given .1, le-leb _ _ (c .before .before .before .before .if1 .left), c .before .before .before .struct-known3 .given .1, le-leb _ _ (c .before .before .if2 .left), eq-eqb _ _ (c .before .if3 .left), ← c .clock .ensures)
+returns-6 c = rw (← (rw (c .before .before .before .before .before .before .before .before .before .before .before .before .before .before .before .number-in-c .ensures) at (c .before .before .before .before .before .before .before .before .before .before .before .before .before .before .look-up .ensures)), c .before .before .before .before .before .before .before .before .before .before .before .before .l .given .1, ← c .before .before .before .before .before .before .before .before .before .before .as-function .ensures, c .before .before .before .before .before .before .before .before .a .given .1, ← c .before .before .before .before .before .before .d0 .ensures, c .before .before .before .before .before .struct-known .given .1, le-leb _ _ (c .before .before .before .before .if1 .left), c .before .before .before .struct-known2 .given .1, le-leb _ _ (c .before .before .if2 .left), eq-eqb _ _ (c .before .if3 .left), ← c .clock .ensures)
 
 pub judge-function-spec : {M : Type 1} → statement M
 judge-function-spec =
@@ -76,6 +79,7 @@ judge-function-spec =
     enum-told-2
     why-range-requires
     returns-2
+    d0-requires
     returns-3
     returns-4
     returns-5

@@ -1,38 +1,44 @@
--- `judging_numbers::callers::caller_table` meets its contract: the tag tells whether a process stands in the caller's slot.
-use mathlib.Core.Path.{sym, _∙_}
+-- `judging_numbers::callers::caller_table` meets its contract: each return rewrites with the steps that led there.
 use borrow.Author.Needs.{needs}
 use denote.Ref.{now}
-use Rattle.words.specs.Fields.{slot}
-use Rattle.state.specs.Read.{read}
-use Rattle.state.specs.State.{objAt}
-use Rattle.state.proofs.Look.{object-past}
-use Rattle.rules.specs.Calls.{callerTable}
-use Rattle.judging_numbers.proofs.CallerTable.{caller-known, caller-none}
+use Rattle.words.specs.Try.{_>>=_}
+use Rattle.judging_numbers.proofs.CallerTable.{caller-steps}
 use Rattle.judging_numbers.proofs.callers.caller_table.Statement.{statement}
 use Rattle.judging_numbers.proofs.callers.caller_table.Tie as tie
 
+caller-slot-requires : tie.Need-caller-slot-requires
+caller-slot-requires c κs = search needs
+
+enum-known-a : tie.Need-enum-known-a
+enum-known-a c = search needs
+
+enum-told : tie.Need-enum-told
+enum-told c = search needs
+
+why-slot-requires : tie.Need-why-slot-requires
+why-slot-requires c κs = search needs
+
 returns : tie.Need-returns
-unfolding callerTable
-returns c = let a = c .before .before .args in rw (object-past (now (a .s)) (slot (a .caller)) (c .if1 .taken))
+unfolding _>>=_
+returns c = let a = c .before .before .before .before .before .args in
+    rw (c .why-slot .ensures, caller-steps (now (a .s)) (a .caller), ← c .before .before .before .caller-slot .ensures, c .before .enum-told .given .1)
 
-cast-if2 : tie.Need-cast-if2
-cast-if2 c = search needs
-
-tag-at-requires : tie.Need-tag-at-requires
-tag-at-requires c κs = search needs
+table-of-caller-requires : tie.Need-table-of-caller-requires
+table-of-caller-requires c κs = search needs
 
 returns-2 : tie.Need-returns-2
-returns-2 c = let a = c .before .before .before .before .args in
-    sym (caller-none (objAt (read (now (a .s))) (slot (a .caller))) (λ x. c .if2 .taken (c .before .tag-at .ensures ∙ x)))
-
-table-named-requires : tie.Need-table-named-requires
-table-named-requires c κs = search needs
-
-returns-3 : tie.Need-returns-3
-returns-3 c = let a = c .before .before .before .before .before .args in
-    let tag = sym (c .before .before .tag-at .ensures) ∙ c .before .if2 .left in
-    rw (c .table-named .ensures) (sym (caller-known (objAt (read (now (a .s))) (slot (a .caller))) tag))
+unfolding _>>=_
+returns-2 c = let a = c .before .before .before .before .before .before .args in
+    rw (caller-steps (now (a .s)) (a .caller), ← c .before .before .before .before .caller-slot .ensures, c .before .before .a .given .1) (c .table-of-caller .ensures)
 
 pub caller-table-spec : {M : Type 1} → statement M
 caller-table-spec =
-    tie.close (tie.spec returns cast-if2 tag-at-requires returns-2 table-named-requires returns-3)
+    tie.close
+    (tie.spec
+    caller-slot-requires
+    enum-known-a
+    enum-told
+    why-slot-requires
+    returns
+    table-of-caller-requires
+    returns-2)

@@ -1,6 +1,6 @@
 -- `judging_numbers::kinds::as_directory_object` meets its contract: each return rewrites with the steps that led there.
 use borrow.Author.Needs.{needs}
-use Rattle.words.specs.Try.{_>>=_, _>>_}
+use Rattle.words.specs.Try.{_>>=_}
 use Rattle.rules.specs.Calls.{asDirectoryObject}
 use Rattle.judging_numbers.proofs.kinds.as_directory_object.Statement.{statement}
 use Rattle.judging_numbers.proofs.kinds.as_directory_object.Tie as tie

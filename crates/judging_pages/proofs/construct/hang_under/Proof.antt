@@ -7,8 +7,6 @@ use Rattle.judging_pages.specs.Hanging.{hangUnder}
 use Rattle.judging_pages.proofs.construct.hang_under.Statement.{statement}
 use Rattle.judging_pages.proofs.construct.hang_under.Tie as tie
 
--- `judging_pages::construct::hang_under` meets its contract: each return rewrites with the steps that led there.
-
 positions-in-requires : tie.Need-positions-in-requires
 positions-in-requires c κs = search needs
 

@@ -83,6 +83,9 @@ returns-4 : tie.Need-returns-4
 unfolding createProcess _>>=_ _>>_
 returns-4 c = rw (c .why-slot3 .ensures, ← (rw (c .before .before .before .before .before .before .before .before .before .before .before .before .before .before .before .before .before .number-in-c .ensures) at (c .before .before .before .before .before .before .before .before .before .before .before .before .before .before .before .before .table-arg .ensures)), c .before .before .before .before .before .before .before .before .before .before .before .before .before .before .a .given .1, ← (rw (c .before .before .before .before .before .before .before .before .before .before .before .before .number-in-d12 .ensures) at (c .before .before .before .before .before .before .before .before .before .before .before .memory-arg .ensures)), c .before .before .before .before .before .before .before .before .before .b .given .1, ← (rw (c .before .before .before .before .before .before .before .before .before .before .before .before .before .before .before .before .before .before .before .number-in-d1 .ensures) at (c .before .before .before .before .before .before .before .table-arg2 .ensures)), c .before .before .before .before .before .f .given .1, ← (rw (c .before .before .before .before .before .before .before .before .before .before .before .before .before .before .before .before .before .before .number-in-d0 .ensures) at (c .before .before .before .top-arg .ensures)), c .before .enum-told4 .given .1)
 
+d0-requires : tie.Need-d0-requires
+d0-requires c κs = search needs
+
 to-fill-requires : tie.Need-to-fill-requires
 to-fill-requires c κs = search needs
 
@@ -97,7 +100,7 @@ why-spot-requires c κs = search needs
 
 returns-5 : tie.Need-returns-5
 unfolding createProcess _>>=_ _>>_
-returns-5 c = rw (c .why-spot .ensures, ← (rw (c .before .before .before .before .before .before .before .before .before .before .before .before .before .before .before .before .before .before .before .before .before .before .number-in-c .ensures) at (c .before .before .before .before .before .before .before .before .before .before .before .before .before .before .before .before .before .before .before .before .before .table-arg .ensures)), c .before .before .before .before .before .before .before .before .before .before .before .before .before .before .before .before .before .before .before .a .given .1, ← (rw (c .before .before .before .before .before .before .before .before .before .before .before .before .before .before .before .before .before .number-in-d12 .ensures) at (c .before .before .before .before .before .before .before .before .before .before .before .before .before .before .before .before .memory-arg .ensures)), c .before .before .before .before .before .before .before .before .before .before .before .before .before .before .b .given .1, ← (rw (c .before .before .before .before .before .before .before .before .before .before .before .before .before .before .before .before .before .before .before .before .before .before .before .before .number-in-d1 .ensures) at (c .before .before .before .before .before .before .before .before .before .before .before .before .table-arg2 .ensures)), c .before .before .before .before .before .before .before .before .before .before .f .given .1, ← (rw (c .before .before .before .before .before .before .before .before .before .before .before .before .before .before .before .before .before .before .before .before .before .before .before .number-in-d0 .ensures) at (c .before .before .before .before .before .before .before .before .top-arg .ensures)), c .before .before .before .before .before .before .g .given .1, c .before .before .before .before .struct-known .given .1, ← c .before .before .before .to-fill .ensures, c .before .enum-told5 .given .1)
+returns-5 c = rw (c .why-spot .ensures, ← (rw (c .before .before .before .before .before .before .before .before .before .before .before .before .before .before .before .before .before .before .before .before .before .before .number-in-c .ensures) at (c .before .before .before .before .before .before .before .before .before .before .before .before .before .before .before .before .before .before .before .before .before .table-arg .ensures)), c .before .before .before .before .before .before .before .before .before .before .before .before .before .before .before .before .before .before .before .a .given .1, ← (rw (c .before .before .before .before .before .before .before .before .before .before .before .before .before .before .before .before .before .number-in-d12 .ensures) at (c .before .before .before .before .before .before .before .before .before .before .before .before .before .before .before .before .memory-arg .ensures)), c .before .before .before .before .before .before .before .before .before .before .before .before .before .before .b .given .1, ← (rw (c .before .before .before .before .before .before .before .before .before .before .before .before .before .before .before .before .before .before .before .before .before .before .before .before .number-in-d1 .ensures) at (c .before .before .before .before .before .before .before .before .before .before .before .before .table-arg2 .ensures)), c .before .before .before .before .before .before .before .before .before .before .f .given .1, ← (rw (c .before .before .before .before .before .before .before .before .before .before .before .before .before .before .before .before .before .before .before .before .before .before .before .number-in-d0 .ensures) at (c .before .before .before .before .before .before .before .before .top-arg .ensures)), c .before .before .before .before .before .before .g .given .1, ← (rw (c .before .before .before .before .d0 .ensures) at (c .before .before .before .to-fill .ensures)), c .before .enum-told5 .given .1)
 
 address-in-word-requires : tie.Need-address-in-word-requires
 address-in-word-requires c κs = search needs
@@ -116,11 +119,11 @@ why-slot-requires-4 c κs = search needs
 
 returns-6 : tie.Need-returns-6
 unfolding createProcess _>>=_ _>>_
-returns-6 c = rw (c .why-slot4 .ensures, ← (rw (c .before .before .before .before .before .before .before .before .before .before .before .before .before .before .before .before .before .before .before .before .before .before .before .before .before .before .before .number-in-c .ensures) at (c .before .before .before .before .before .before .before .before .before .before .before .before .before .before .before .before .before .before .before .before .before .before .before .before .before .before .table-arg .ensures)), c .before .before .before .before .before .before .before .before .before .before .before .before .before .before .before .before .before .before .before .before .before .before .before .before .a .given .1, ← (rw (c .before .before .before .before .before .before .before .before .before .before .before .before .before .before .before .before .before .before .before .before .before .before .number-in-d12 .ensures) at (c .before .before .before .before .before .before .before .before .before .before .before .before .before .before .before .before .before .before .before .before .before .memory-arg .ensures)), c .before .before .before .before .before .before .before .before .before .before .before .before .before .before .before .before .before .before .before .b .given .1, ← (rw (c .before .before .before .before .before .before .before .before .before .before .before .before .before .before .before .before .before .before .before .before .before .before .before .before .before .before .before .before .before .number-in-d1 .ensures) at (c .before .before .before .before .before .before .before .before .before .before .before .before .before .before .before .before .before .table-arg2 .ensures)), c .before .before .before .before .before .before .before .before .before .before .before .before .before .before .before .f .given .1, ← (rw (c .before .before .before .before .before .before .before .before .before .before .before .before .before .before .before .before .before .before .before .before .before .before .before .before .before .before .before .before .number-in-d0 .ensures) at (c .before .before .before .before .before .before .before .before .before .before .before .before .before .top-arg .ensures)), c .before .before .before .before .before .before .before .before .before .before .before .g .given .1, c .before .before .before .before .before .before .before .before .before .struct-known .given .1, ← c .before .before .before .before .before .before .before .before .to-fill .ensures, c .before .before .before .before .before .before .l .given .1, ← (rw (c .before .before .before .before .address-in-word .ensures) at (c .before .before .before .address-arg .ensures)), c .before .enum-told6 .given .1)
+returns-6 c = rw (c .why-slot4 .ensures, ← (rw (c .before .before .before .before .before .before .before .before .before .before .before .before .before .before .before .before .before .before .before .before .before .before .before .before .before .before .before .number-in-c .ensures) at (c .before .before .before .before .before .before .before .before .before .before .before .before .before .before .before .before .before .before .before .before .before .before .before .before .before .before .table-arg .ensures)), c .before .before .before .before .before .before .before .before .before .before .before .before .before .before .before .before .before .before .before .before .before .before .before .before .a .given .1, ← (rw (c .before .before .before .before .before .before .before .before .before .before .before .before .before .before .before .before .before .before .before .before .before .before .number-in-d12 .ensures) at (c .before .before .before .before .before .before .before .before .before .before .before .before .before .before .before .before .before .before .before .before .before .memory-arg .ensures)), c .before .before .before .before .before .before .before .before .before .before .before .before .before .before .before .before .before .before .before .b .given .1, ← (rw (c .before .before .before .before .before .before .before .before .before .before .before .before .before .before .before .before .before .before .before .before .before .before .before .before .before .before .before .before .before .number-in-d1 .ensures) at (c .before .before .before .before .before .before .before .before .before .before .before .before .before .before .before .before .before .table-arg2 .ensures)), c .before .before .before .before .before .before .before .before .before .before .before .before .before .before .before .f .given .1, ← (rw (c .before .before .before .before .before .before .before .before .before .before .before .before .before .before .before .before .before .before .before .before .before .before .before .before .before .before .before .before .number-in-d0 .ensures) at (c .before .before .before .before .before .before .before .before .before .before .before .before .before .top-arg .ensures)), c .before .before .before .before .before .before .before .before .before .before .before .g .given .1, ← (rw (c .before .before .before .before .before .before .before .before .before .d0 .ensures) at (c .before .before .before .before .before .before .before .before .to-fill .ensures)), c .before .before .before .before .before .before .l .given .1, ← (rw (c .before .before .before .before .address-in-word .ensures) at (c .before .before .before .address-arg .ensures)), c .before .enum-told6 .given .1)
 
 returns-7 : tie.Need-returns-7
 unfolding createProcess _>>=_ _>>_
-returns-7 c = rw (← (rw (c .before .before .before .before .before .before .before .before .before .before .before .before .before .before .before .before .before .before .before .before .before .before .before .before .before .before .before .number-in-c .ensures) at (c .before .before .before .before .before .before .before .before .before .before .before .before .before .before .before .before .before .before .before .before .before .before .before .before .before .before .table-arg .ensures)), c .before .before .before .before .before .before .before .before .before .before .before .before .before .before .before .before .before .before .before .before .before .before .before .before .a .given .1, ← (rw (c .before .before .before .before .before .before .before .before .before .before .before .before .before .before .before .before .before .before .before .before .before .before .number-in-d12 .ensures) at (c .before .before .before .before .before .before .before .before .before .before .before .before .before .before .before .before .before .before .before .before .before .memory-arg .ensures)), c .before .before .before .before .before .before .before .before .before .before .before .before .before .before .before .before .before .before .before .b .given .1, ← (rw (c .before .before .before .before .before .before .before .before .before .before .before .before .before .before .before .before .before .before .before .before .before .before .before .before .before .before .before .before .before .number-in-d1 .ensures) at (c .before .before .before .before .before .before .before .before .before .before .before .before .before .before .before .before .before .table-arg2 .ensures)), c .before .before .before .before .before .before .before .before .before .before .before .before .before .before .before .f .given .1, ← (rw (c .before .before .before .before .before .before .before .before .before .before .before .before .before .before .before .before .before .before .before .before .before .before .before .before .before .before .before .before .number-in-d0 .ensures) at (c .before .before .before .before .before .before .before .before .before .before .before .before .before .top-arg .ensures)), c .before .before .before .before .before .before .before .before .before .before .before .g .given .1, c .before .before .before .before .before .before .before .before .before .struct-known .given .1, ← c .before .before .before .before .before .before .before .before .to-fill .ensures, c .before .before .before .before .before .before .l .given .1, ← (rw (c .before .before .before .before .address-in-word .ensures) at (c .before .before .before .address-arg .ensures)), c .before .x .given .1)
+returns-7 c = rw (← (rw (c .before .before .before .before .before .before .before .before .before .before .before .before .before .before .before .before .before .before .before .before .before .before .before .before .before .before .before .number-in-c .ensures) at (c .before .before .before .before .before .before .before .before .before .before .before .before .before .before .before .before .before .before .before .before .before .before .before .before .before .before .table-arg .ensures)), c .before .before .before .before .before .before .before .before .before .before .before .before .before .before .before .before .before .before .before .before .before .before .before .before .a .given .1, ← (rw (c .before .before .before .before .before .before .before .before .before .before .before .before .before .before .before .before .before .before .before .before .before .before .number-in-d12 .ensures) at (c .before .before .before .before .before .before .before .before .before .before .before .before .before .before .before .before .before .before .before .before .before .memory-arg .ensures)), c .before .before .before .before .before .before .before .before .before .before .before .before .before .before .before .before .before .before .before .b .given .1, ← (rw (c .before .before .before .before .before .before .before .before .before .before .before .before .before .before .before .before .before .before .before .before .before .before .before .before .before .before .before .before .before .number-in-d1 .ensures) at (c .before .before .before .before .before .before .before .before .before .before .before .before .before .before .before .before .before .table-arg2 .ensures)), c .before .before .before .before .before .before .before .before .before .before .before .before .before .before .before .f .given .1, ← (rw (c .before .before .before .before .before .before .before .before .before .before .before .before .before .before .before .before .before .before .before .before .before .before .before .before .before .before .before .before .number-in-d0 .ensures) at (c .before .before .before .before .before .before .before .before .before .before .before .before .before .top-arg .ensures)), c .before .before .before .before .before .before .before .before .before .before .before .g .given .1, ← (rw (c .before .before .before .before .before .before .before .before .before .d0 .ensures) at (c .before .before .before .before .before .before .before .before .to-fill .ensures)), c .before .before .before .before .before .before .l .given .1, ← (rw (c .before .before .before .before .address-in-word .ensures) at (c .before .before .before .address-arg .ensures)), c .before .x .given .1)
 
 pub judge-create-process-spec : {M : Type 1} → statement M
 judge-create-process-spec =
@@ -150,6 +153,7 @@ judge-create-process-spec =
     enum-told-4
     why-slot-requires-3
     returns-4
+    d0-requires
     to-fill-requires
     enum-known-l
     enum-told-5

@@ -1,4 +1,5 @@
 -- `judging_tables::delegate::judge_delegate` meets its contract: each return rewrites with the steps that led there.
+use native.Mathlib.Omega.{arith}
 use borrow.Author.Needs.{needs}
 use Rattle.rules.specs.Calls.{delegate}
 use Rattle.words.specs.Try.{_>>=_, _>>_, need}
@@ -43,6 +44,9 @@ returns-2 : tie.Need-returns-2
 unfolding delegate _>>=_ _>>_ need
 returns-2 c = rw (c .why-slot2 .ensures, ← (rw (c .before .before .before .before .before .before .before .before .before .number-in-d1 .ensures) at (c .before .before .before .before .before .before .before .before .table-arg .ensures)), c .before .before .before .before .before .before .to .given .1, ← (rw (c .before .before .before .before .number-in-d12 .ensures) at (c .before .before .before .table-arg2 .ensures)), c .before .enum-told2 .given .1)
 
+d0-requires : tie.Need-d0-requires
+d0-requires c κs = search needs
+
 to-fill-requires : tie.Need-to-fill-requires
 to-fill-requires c κs = search needs
 
@@ -57,7 +61,10 @@ why-spot-requires c κs = search needs
 
 returns-3 : tie.Need-returns-3
 unfolding delegate _>>=_ _>>_ need
-returns-3 c = rw (c .why-spot .ensures, ← (rw (c .before .before .before .before .before .before .before .before .before .before .before .before .before .before .number-in-d1 .ensures) at (c .before .before .before .before .before .before .before .before .before .before .before .before .before .table-arg .ensures)), c .before .before .before .before .before .before .before .before .before .before .before .to .given .1, ← (rw (c .before .before .before .before .before .before .before .before .before .number-in-d12 .ensures) at (c .before .before .before .before .before .before .before .before .table-arg2 .ensures)), c .before .before .before .before .before .before .from .given .1, ← c .before .before .before .to-fill .ensures, c .before .enum-told3 .given .1)
+returns-3 c = rw (c .why-spot .ensures, ← (rw (c .before .before .before .before .before .before .before .before .before .before .before .before .before .before .number-in-d1 .ensures) at (c .before .before .before .before .before .before .before .before .before .before .before .before .before .table-arg .ensures)), c .before .before .before .before .before .before .before .before .before .before .before .to .given .1, ← (rw (c .before .before .before .before .before .before .before .before .before .number-in-d12 .ensures) at (c .before .before .before .before .before .before .before .before .table-arg2 .ensures)), c .before .before .before .before .before .before .from .given .1, ← (rw (c .before .before .before .before .d0 .ensures) at (c .before .before .before .to-fill .ensures)), c .before .enum-told3 .given .1)
+
+d0-requires-2 : tie.Need-d0-requires-2
+d0-requires-2 c κs = search needs
 
 thawed-at-requires : tie.Need-thawed-at-requires
 thawed-at-requires c κs = search needs
@@ -73,7 +80,7 @@ why-right-requires c κs = search needs
 
 returns-4 : tie.Need-returns-4
 unfolding delegate _>>=_ _>>_ need
-returns-4 c = rw (c .why-right .ensures, ← (rw (c .before .before .before .before .before .before .before .before .before .before .before .before .before .before .before .before .before .before .before .number-in-d1 .ensures) at (c .before .before .before .before .before .before .before .before .before .before .before .before .before .before .before .before .before .before .table-arg .ensures)), c .before .before .before .before .before .before .before .before .before .before .before .before .before .before .before .before .to .given .1, ← (rw (c .before .before .before .before .before .before .before .before .before .before .before .before .before .before .number-in-d12 .ensures) at (c .before .before .before .before .before .before .before .before .before .before .before .before .before .table-arg2 .ensures)), c .before .before .before .before .before .before .before .before .before .before .before .from .given .1, ← c .before .before .before .before .before .before .before .before .to-fill .ensures, c .before .before .before .before .before .before .f .given .1, ← c .before .before .before .thawed-at .ensures, c .before .enum-told4 .given .1)
+returns-4 c = rw (c .why-right .ensures, ← (rw (c .before .before .before .before .before .before .before .before .before .before .before .before .before .before .before .before .before .before .before .number-in-d1 .ensures) at (c .before .before .before .before .before .before .before .before .before .before .before .before .before .before .before .before .before .before .table-arg .ensures)), c .before .before .before .before .before .before .before .before .before .before .before .before .before .before .before .before .to .given .1, ← (rw (c .before .before .before .before .before .before .before .before .before .before .before .before .before .before .number-in-d12 .ensures) at (c .before .before .before .before .before .before .before .before .before .before .before .before .before .table-arg2 .ensures)), c .before .before .before .before .before .before .before .before .before .before .before .from .given .1, ← (rw (c .before .before .before .before .before .before .before .before .before .d0 .ensures) at (c .before .before .before .before .before .before .before .before .to-fill .ensures)), c .before .before .before .before .before .before .f .given .1, ← (rw (c .before .before .before .before .d02 .ensures) at (c .before .before .before .thawed-at .ensures)), c .before .enum-told4 .given .1)
 
 cast-n : tie.Need-cast-n
 cast-n c = search needs
@@ -82,7 +89,7 @@ mul-grant-of : tie.Need-mul-grant-of
 mul-grant-of c = search needs
 
 add-grant-of : tie.Need-add-grant-of
-add-grant-of c = search needs
+add-grant-of c = omega (arith, c .before .before .before .before .before .d02 .ensures)
 
 grant-of-requires : tie.Need-grant-of-requires
 grant-of-requires c κs = search needs
@@ -98,11 +105,11 @@ why-right-requires-2 c κs = search needs
 
 returns-5 : tie.Need-returns-5
 unfolding delegate _>>=_ _>>_ need
-returns-5 c = rw (c .why-right2 .ensures, ← (rw (c .before .before .before .before .before .before .before .before .before .before .before .before .before .before .before .before .before .before .before .before .before .before .before .before .before .number-in-d1 .ensures) at (c .before .before .before .before .before .before .before .before .before .before .before .before .before .before .before .before .before .before .before .before .before .before .before .before .table-arg .ensures)), c .before .before .before .before .before .before .before .before .before .before .before .before .before .before .before .before .before .before .before .before .before .before .to .given .1, ← (rw (c .before .before .before .before .before .before .before .before .before .before .before .before .before .before .before .before .before .before .before .before .number-in-d12 .ensures) at (c .before .before .before .before .before .before .before .before .before .before .before .before .before .before .before .before .before .before .before .table-arg2 .ensures)), c .before .before .before .before .before .before .before .before .before .before .before .before .before .before .before .before .before .from .given .1, ← c .before .before .before .before .before .before .before .before .before .before .before .before .before .before .to-fill .ensures, c .before .before .before .before .before .before .before .before .before .before .before .before .f .given .1, ← c .before .before .before .before .before .before .before .before .before .thawed-at .ensures, c .before .before .before .before .before .before .before .l .given .1, ← c .before .before .before .grant-of .ensures, c .before .enum-told5 .given .1)
+returns-5 c = rw (c .why-right2 .ensures, ← (rw (c .before .before .before .before .before .before .before .before .before .before .before .before .before .before .before .before .before .before .before .before .before .before .before .before .number-in-d1 .ensures) at (c .before .before .before .before .before .before .before .before .before .before .before .before .before .before .before .before .before .before .before .before .before .before .before .table-arg .ensures)), c .before .before .before .before .before .before .before .before .before .before .before .before .before .before .before .before .before .before .before .before .before .to .given .1, ← (rw (c .before .before .before .before .before .before .before .before .before .before .before .before .before .before .before .before .before .before .before .number-in-d12 .ensures) at (c .before .before .before .before .before .before .before .before .before .before .before .before .before .before .before .before .before .before .table-arg2 .ensures)), c .before .before .before .before .before .before .before .before .before .before .before .before .before .before .before .before .from .given .1, ← (rw (c .before .before .before .before .before .before .before .before .before .before .before .before .before .before .d0 .ensures) at (c .before .before .before .before .before .before .before .before .before .before .before .before .before .to-fill .ensures)), c .before .before .before .before .before .before .before .before .before .before .before .f .given .1, ← (rw (c .before .before .before .before .before .before .before .before .before .d02 .ensures) at (c .before .before .before .before .before .before .before .before .thawed-at .ensures)), c .before .before .before .before .before .before .l .given .1, ← (rw (c .before .before .before .before .before .before .before .before .before .d02 .ensures) at (c .before .before .before .grant-of .ensures)), c .before .enum-told5 .given .1)
 
 returns-6 : tie.Need-returns-6
 unfolding delegate _>>=_ _>>_ need
-returns-6 c = rw (← (rw (c .before .before .before .before .before .before .before .before .before .before .before .before .before .before .before .before .before .before .before .before .before .before .before .before .before .number-in-d1 .ensures) at (c .before .before .before .before .before .before .before .before .before .before .before .before .before .before .before .before .before .before .before .before .before .before .before .before .table-arg .ensures)), c .before .before .before .before .before .before .before .before .before .before .before .before .before .before .before .before .before .before .before .before .before .before .to .given .1, ← (rw (c .before .before .before .before .before .before .before .before .before .before .before .before .before .before .before .before .before .before .before .before .number-in-d12 .ensures) at (c .before .before .before .before .before .before .before .before .before .before .before .before .before .before .before .before .before .before .before .table-arg2 .ensures)), c .before .before .before .before .before .before .before .before .before .before .before .before .before .before .before .before .before .from .given .1, ← c .before .before .before .before .before .before .before .before .before .before .before .before .before .before .to-fill .ensures, c .before .before .before .before .before .before .before .before .before .before .before .before .f .given .1, ← c .before .before .before .before .before .before .before .before .before .thawed-at .ensures, c .before .before .before .before .before .before .before .l .given .1, ← c .before .before .before .grant-of .ensures, c .before .a .given .1)
+returns-6 c = rw (← (rw (c .before .before .before .before .before .before .before .before .before .before .before .before .before .before .before .before .before .before .before .before .before .before .before .before .number-in-d1 .ensures) at (c .before .before .before .before .before .before .before .before .before .before .before .before .before .before .before .before .before .before .before .before .before .before .before .table-arg .ensures)), c .before .before .before .before .before .before .before .before .before .before .before .before .before .before .before .before .before .before .before .before .before .to .given .1, ← (rw (c .before .before .before .before .before .before .before .before .before .before .before .before .before .before .before .before .before .before .before .number-in-d12 .ensures) at (c .before .before .before .before .before .before .before .before .before .before .before .before .before .before .before .before .before .before .table-arg2 .ensures)), c .before .before .before .before .before .before .before .before .before .before .before .before .before .before .before .before .from .given .1, ← (rw (c .before .before .before .before .before .before .before .before .before .before .before .before .before .before .d0 .ensures) at (c .before .before .before .before .before .before .before .before .before .before .before .before .before .to-fill .ensures)), c .before .before .before .before .before .before .before .before .before .before .before .f .given .1, ← (rw (c .before .before .before .before .before .before .before .before .before .d02 .ensures) at (c .before .before .before .before .before .before .before .before .thawed-at .ensures)), c .before .before .before .before .before .before .l .given .1, ← (rw (c .before .before .before .before .before .before .before .before .before .d02 .ensures) at (c .before .before .before .grant-of .ensures)), c .before .a .given .1)
 
 pub judge-delegate-spec : {M : Type 1} → statement M
 judge-delegate-spec =
@@ -120,11 +127,13 @@ judge-delegate-spec =
     enum-told-2
     why-slot-requires-2
     returns-2
+    d0-requires
     to-fill-requires
     enum-known-f
     enum-told-3
     why-spot-requires
     returns-3
+    d0-requires-2
     thawed-at-requires
     enum-known-l
     enum-told-4

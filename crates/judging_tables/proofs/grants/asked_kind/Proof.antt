@@ -24,6 +24,12 @@ enum-known-k-4 c = search needs
 enum-told-2 : tie.Need-enum-told-2
 enum-told-2 c = search needs
 
+d0-requires : tie.Need-d0-requires
+d0-requires c κs = search needs
+
+d1-requires : tie.Need-d1-requires
+d1-requires c κs = search needs
+
 returns : tie.Need-returns
 returns c = rw (c .before .k .given .1)
 
@@ -40,7 +46,7 @@ returns-5 : tie.Need-returns-5
 returns-5 c = rw (c .before .k4 .given .1)
 
 returns-6 : tie.Need-returns-6
-returns-6 c = rw (c .before .before .enum-told2 .given .1)
+returns-6 c = rw (c .before .before .enum-told2 .given .1, c .before .d0 .ensures, c .d1 .ensures)
 
 pub asked-kind-spec : {M : Type 1} → statement M
 asked-kind-spec =
@@ -53,6 +59,8 @@ asked-kind-spec =
     enum-known-k-3
     enum-known-k-4
     enum-told-2
+    d0-requires
+    d1-requires
     returns
     returns-2
     returns-3

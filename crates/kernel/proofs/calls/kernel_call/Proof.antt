@@ -37,12 +37,14 @@ enum-known-p c = search needs
 carry-out-requires : tie.Need-carry-out-requires
 carry-out-requires c κs = let a = c .before .before .before .before .before .before .before .before .before .before .args in
     let e : sound (now (a .s)) ≡ true = sym (c .before .before .before .before .before .before .before .well-formed .ensures) ∙ not-false (c .before .before .before .before .before .before .before .well-formed .result) (c .before .before .before .before .before .before .if1 .left) in
-    (e, ready-plan (now (a .s)) (a .caller) (four (a .w0) (a .w1) (a .w2) (a .w3)) _ e (sym (c .before .before .before .before .judge .ensures) ∙ ap toldPlan (c .before .before .p .given .1)))
+    let ready = ready-plan (now (a .s)) (a .caller) (four (a .w0) (a .w1) (a .w2) (a .w3)) (c .before .before .p .given .0 .0) e (sym (c .before .before .before .before .judge .ensures) ∙ ap toldPlan (c .before .before .p .given .1)) in
+    (e, ready)
 
 answer-of-requires : tie.Need-answer-of-requires
 answer-of-requires c κs = let a = c .before .before .before .before .before .before .before .before .before .before .before .before .before .args in
     let e : sound (now (a .s)) ≡ true = sym (c .before .before .before .before .before .before .before .before .before .before .well-formed .ensures) ∙ not-false (c .before .before .before .before .before .before .before .before .before .before .well-formed .result) (c .before .before .before .before .before .before .before .before .before .if1 .left) in
-    answer-fits (read (now (a .s))) (c .before .before .before .before .before .p .given .0 .0) (ready-plan (now (a .s)) (a .caller) (four (a .w0) (a .w1) (a .w2) (a .w3)) (c .before .before .before .before .before .p .given .0 .0) e (sym (c .before .before .before .before .before .before .before .judge .ensures) ∙ ap toldPlan (c .before .before .before .before .before .p .given .1)))
+    let ready = ready-plan (now (a .s)) (a .caller) (four (a .w0) (a .w1) (a .w2) (a .w3)) (c .before .before .before .before .before .p .given .0 .0) e (sym (c .before .before .before .before .before .before .before .judge .ensures) ∙ ap toldPlan (c .before .before .before .before .before .p .given .1)) in
+    answer-fits (read (now (a .s))) (c .before .before .before .before .before .p .given .0 .0) ready
 
 enum-known-p-2 : tie.Need-enum-known-p-2
 enum-known-p-2 c = search needs

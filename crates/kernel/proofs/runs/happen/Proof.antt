@@ -1,5 +1,4 @@
 -- `kernel::runs::happen` meets its contract: a tick or a call, by the caller.
-use Prim.Native.Nat.{_-_, _/_}
 use borrow.Author.Tests.{eq-eqb, ne-eqb}
 use borrow.Author.Needs.{needs}
 use mir.Syntax.{w32}

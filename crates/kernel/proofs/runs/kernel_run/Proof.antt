@@ -1,4 +1,4 @@
--- `kernel::runs::kernel_run` meets its contract.
+-- `kernel::runs::kernel_run` meets its contract. The loop's invariant: the first i events have happened.
 use mathlib.Core.List.{[], _∷_, List, _++_}
 use mathlib.Core.Path.{_≡_, refl, sym, ap, _∙_}
 use Prim.Native.Nat.{_<_, _+_, ℕ, suc, _≤_, _-_, _/_}
@@ -17,8 +17,6 @@ use Rattle.kernel.specs.Script.{eventAt, eventsIn, runResult}
 use Rattle.kernel.proofs.Scripts.{run-next, answer-next}
 use Rattle.kernel.proofs.runs.kernel_run.Statement.{statement}
 use Rattle.kernel.proofs.runs.kernel_run.Tie as tie
-
--- `kernel::runs::kernel_run` meets its contract. The loop's invariant: the first i events have happened.
 
 abbrev Inv-loop : tie.InvT-loop
 Inv-loop s₀ script answers₀ n i₀ s answers i = (s ≡ runOutcome s₀ (eventsIn i script) .buffer) × (answers ≡ runOutcome s₀ (eventsIn i script) .replies ++ drop i answers₀) × (i ≤ n) × (length s ≡ length s₀) × (length answers ≡ length answers₀)

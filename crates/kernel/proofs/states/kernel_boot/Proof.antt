@@ -7,8 +7,6 @@ use Rattle.rules.specs.Buffer.{bootOutcome}
 use Rattle.kernel.proofs.states.kernel_boot.Statement.{statement}
 use Rattle.kernel.proofs.states.kernel_boot.Tie as tie
 
--- `kernel::states::kernel_boot` meets its contract: by the length, and what `store_boot` leaves.
-
 refusal-number-requires : tie.Need-refusal-number-requires
 refusal-number-requires c κs = search needs
 

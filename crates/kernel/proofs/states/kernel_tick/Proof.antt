@@ -12,8 +12,6 @@ use Rattle.kernel.proofs.Laws.{sound-long, tick-written}
 use Rattle.kernel.proofs.states.kernel_tick.Statement.{statement}
 use Rattle.kernel.proofs.states.kernel_tick.Tie as tie
 
--- `kernel::states::kernel_tick` meets its contract: by the check, and what a stored clock leaves of the bytes.
-
 well-formed-requires : tie.Need-well-formed-requires
 well-formed-requires c κs = search needs
 

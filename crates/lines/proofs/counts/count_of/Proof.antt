@@ -4,7 +4,6 @@ use mathlib.Core.Bool.{Bool, true, false, not, false≢true}
 use mathlib.Core.Path.{_≡_, refl, sym, subst, ap, _∙_}
 use native.Mathlib.Nat.{lt-of-le-of-lt, not-suc-le-zero}
 use borrow.Author.Tests.{ltb-true}
-use Prim.Native.Nat.{ℕ}
 use lib.IntN.{ℤ, pos, negsuc, natAbs}
 use lib.Dec.{T, lit<}
 use lib.Signed.{ltZ, ltZ-no, yes-nonNeg, natAbs-le}

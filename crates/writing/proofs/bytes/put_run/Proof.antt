@@ -1,7 +1,7 @@
 -- `writing::bytes::put_run` meets its contract: the loop of `put_words` over one word n times (`put-more`, `put-done`).
 use mathlib.Core.Path.{_≡_, refl, sym, _∙_, ap}
 use mathlib.Core.List.{List, _++_}
-use Prim.Native.Nat.{ℕ, _+_, _-_, _*_, _≤_, _<_}
+use Prim.Native.Nat.{ℕ, _-_, _*_, _≤_, _<_}
 use native.Mathlib.Omega.{arith}
 use lib.ListN.{length, take, drop, getD, replicate, length-replicate, getD-replicate}
 use denote.Ref.{now}

@@ -4,12 +4,9 @@ use lib.ListN.{length}
 use borrow.Author.Needs.{needs}
 use denote.Ref.{now}
 use Rattle.writing.proofs.Stores.{lent, length-words}
-use Rattle.state.proofs.Pieces.{splice-lent}
 use Rattle.state.specs.Bytes.{wordsBytes}
 use Rattle.writing.proofs.bytes.store_words.Statement.{statement}
 use Rattle.writing.proofs.bytes.store_words.Tie as tie
-
--- `writing::bytes::store_words` meets its contract: the part that was lent comes back replaced (`splice-lent`).
 
 mul-e : tie.Need-mul-e
 mul-e c = search needs

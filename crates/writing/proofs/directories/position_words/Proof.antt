@@ -1,5 +1,5 @@
 -- `writing::directories::position_words` meets its contract: by cases on the position; what and flags are the two low bytes of a word (`two-words`).
-use Prim.Native.Nat.{_-_, _<_}
+use Prim.Native.Nat.{_<_}
 use native.Mathlib.Omega.{arith}
 use borrow.Author.Needs.{needs}
 use Rattle.writing.specs.Flags.{positionFlags}

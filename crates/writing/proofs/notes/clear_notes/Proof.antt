@@ -4,6 +4,7 @@ use Prim.Native.Nat.{_+_, _*_}
 use lib.ListN.{replicate, length-replicate}
 use borrow.Author.Needs.{needs}
 use denote.Ref.{now}
+use Rattle.words.specs.Sizes.{memoryLength}
 use Rattle.writing.proofs.Stores.{lent}
 use Rattle.writing.proofs.Runs.{run-zeros}
 use Rattle.writing.proofs.notes.clear_notes.Statement.{statement}
@@ -42,7 +43,7 @@ same-length c = search needs
 returns : tie.Need-returns
 returns c =
     let a = c .before .before .before .before .before .before .args in
-    lent (now (a .s)) _ (replicate (4 * a .n) 0) (16384 + 4 * a .k .0) (4 * a .n) (c .before .before .put-run .ensures ∙ run-zeros (a .n)) (length-replicate (4 * a .n) 0)
+    lent (now (a .s)) _ (replicate (4 * a .n) 0) (memoryLength + 4 * a .k .0) (4 * a .n) (c .before .before .put-run .ensures ∙ run-zeros (a .n)) (length-replicate (4 * a .n) 0)
 
 pub clear-notes-spec : {M : Type 1} → statement M
 clear-notes-spec =

@@ -5,6 +5,7 @@ use native.Mathlib.Omega.{arith}
 use lib.ListN.{replicate, length-replicate}
 use borrow.Author.Needs.{needs}
 use denote.Ref.{now}
+use Rattle.words.specs.Sizes.{memoryLength}
 use Rattle.state.specs.State.{body}
 use Rattle.state.specs.Bytes.{each, noteOf, noteBytes}
 use Rattle.state.proofs.Sizes.{notes-length}
@@ -46,7 +47,7 @@ returns : tie.Need-returns
 returns c =
     let a = c .before .before .before .before .before .before .args in
     let later = replicate (a .n - 1) (body (a .k)) in
-    lent (now (a .s)) _ (noteOf (a .tag) (a .argument) ++ each noteBytes later) (16384 + 4 * a .k .0) (4 * a .n) (c .before .before .fill-notes .ensures)
+    lent (now (a .s)) _ (noteOf (a .tag) (a .argument) ++ each noteBytes later) (memoryLength + 4 * a .k .0) (4 * a .n) (c .before .before .fill-notes .ensures)
     (omega (arith, notes-length later, length-replicate (a .n - 1) (body (a .k))))
 
 pub store-notes-spec : {M : Type 1} → statement M

@@ -5,6 +5,7 @@ use native.Mathlib.Omega.{arith}
 use lib.ListN.{replicate, length-replicate}
 use borrow.Author.Needs.{needs}
 use denote.Ref.{now}
+use Rattle.words.specs.Sizes.{slotSize}
 use Rattle.writing.proofs.Stores.{lent}
 use Rattle.writing.proofs.Runs.{run-zeros}
 use Rattle.writing.proofs.slots.clear_slots.Statement.{statement}
@@ -43,9 +44,9 @@ same-length c = search needs
 returns : tie.Need-returns
 returns c =
     let a = c .before .before .before .before .before .before .args in
-    let e : 4 * (16 * a .n) ≡ 64 * a .n = omega arith in
-    lent (now (a .s)) _ (replicate (64 * a .n) 0) (64 * a .k .0) (64 * a .n)
-    (c .before .before .put-run .ensures ∙ run-zeros (16 * a .n) ∙ ap (λ (i : ℕ). replicate i 0) e) (length-replicate (64 * a .n) 0)
+    let e : 4 * (16 * a .n) ≡ slotSize * a .n = omega arith in
+    lent (now (a .s)) _ (replicate (slotSize * a .n) 0) (slotSize * a .k .0) (slotSize * a .n)
+    (c .before .before .put-run .ensures ∙ run-zeros (16 * a .n) ∙ ap (λ (i : ℕ). replicate i 0) e) (length-replicate (slotSize * a .n) 0)
 
 pub clear-slots-spec : {M : Type 1} → statement M
 clear-slots-spec =

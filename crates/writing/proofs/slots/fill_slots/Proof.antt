@@ -5,6 +5,7 @@ use native.Mathlib.Omega.{arith}
 use lib.ListN.{replicate, length-replicate}
 use borrow.Author.Needs.{needs}
 use denote.Ref.{now}
+use Rattle.words.specs.Sizes.{slotSize}
 use Rattle.state.specs.Bytes.{wordsBytes}
 use Rattle.writing.proofs.Stores.{lent}
 use Rattle.writing.proofs.slots.fill_slots.Statement.{statement}
@@ -40,8 +41,8 @@ same-length c = search needs
 returns : tie.Need-returns
 returns c =
     let a = c .before .before .before .before .before .before .args in
-    lent (now (a .s)) _ (wordsBytes (a .a ∷ a .b ∷ a .c ∷ []) ++ replicate (64 * a .n - 12) 0) (64 * a .k .0) (64 * a .n) (c .before .before .fill .ensures)
-    (omega (arith, length-replicate {A = ℕ} (64 * a .n - 12) 0))
+    lent (now (a .s)) _ (wordsBytes (a .a ∷ a .b ∷ a .c ∷ []) ++ replicate (slotSize * a .n - 12) 0) (slotSize * a .k .0) (slotSize * a .n) (c .before .before .fill .ensures)
+    (omega (arith, length-replicate {A = ℕ} (slotSize * a .n - 12) 0))
 
 pub fill-slots-spec : {M : Type 1} → statement M
 fill-slots-spec =
