@@ -1,15 +1,14 @@
 #!/bin/sh
 # Runs the console on the session of all twenty calls, builds the C and the Rust example against the proved kernel and runs both; what
 # each prints is compared with its file .expected.
-# The archive is for x86-64. On another processor this needs a C compiler, Rust's library and an emulator for x86-64; Debian has them as
-#   gcc-x86-64-linux-gnu qemu-user rustc, and libstd-rust-dev for the architecture amd64.
-# CC, RUSTC and RUN name others.
+# Needs the Rattle kit, rustc and a C compiler. The archive is for x86-64: on another processor it needs also what Debian has as
+#   gcc-x86-64-linux-gnu libc6-dev-amd64-cross qemu-user rustc, and libstd-rust-dev for the architecture amd64:
+#   dpkg --add-architecture amd64; apt-get update; apt-get install PACKAGES libstd-rust-dev:amd64
+# RUSTC, CC and QEMU name others; model/x86-64.sh finds them.
 set -eu
-cd "$(dirname "$0")/.."
+cd "$(dirname "$(readlink -f "$0")")/.."
+. model/x86-64.sh
 made=target/examples
-target=x86_64-unknown-linux-gnu
-
-need() { command -v "$1" >/dev/null || { echo "examples: $1 is not found; see the first lines of examples/run.sh" >&2; exit 2; }; }
 
 compare() { # NAME STORED PRINTED
     if ! diff "$2" "$3"; then
@@ -19,26 +18,9 @@ compare() { # NAME STORED PRINTED
     echo "$1: $(wc -l <"$2" | tr -d ' ') lines as stored"
 }
 
-# The first of the Rust compilers that has its library for x86-64.
-rust_for_target() {
-    for one in rustc /usr/bin/rustc; do
-        if command -v "$one" >/dev/null && [ -d "$("$one" --print sysroot)/lib/rustlib/$target" ]; then
-            echo "$one"
-            return
-        fi
-    done
-    echo rustc
-}
-
-if [ "$(uname -m)" = x86_64 ]; then
-    CC=${CC:-cc} RUSTC=${RUSTC:-rustc} RUN=${RUN:-}
-else
-    CC=${CC:-x86_64-linux-gnu-gcc} RUSTC=${RUSTC:-$(rust_for_target)} RUN=${RUN:-qemu-x86_64}
-    need "$RUN"
-fi
-need rt
-need "$CC"
-need "$RUSTC"
+command -v rt >/dev/null || lacking "rt is not found: it is the Rattle kit's, so put the folder bin of the kit on the PATH"
+find_compilers
+on_x86_64 || find_emulator
 
 mkdir -p "$made"
 ./cabinet --words examples/twenty-calls.txt >"$made/twenty-calls.txt"
@@ -50,10 +32,11 @@ if ! rt staticlib kernel >"$made/rt.log" 2>&1; then
     exit 1
 fi
 archive=$PWD/target/staticlib/libkernel.a
-"$CC" -std=c99 -O2 -Wall -Wextra -Wpedantic -Werror -Iinclude examples/c/grant.c "$archive" -o "$made/grant_c"
-"$RUSTC" --edition 2021 -O -D warnings --target "$target" -C linker="$CC" -C link-arg="$archive" examples/rust/grant.rs -o "$made/grant_rust"
+"$CC" -std=c99 -O2 -Wall -Wextra -Wpedantic -Werror -Iinclude examples/c/grant.c "$archive" ${library:+"$library"} -o "$made/grant_c"
+"$RUSTC" --edition 2021 -O -D warnings --target "$target" -C linker="$CC" -C link-arg="$archive" ${library:+-C link-arg="$library"} \
+    examples/rust/grant.rs -o "$made/grant_rust"
 
 for language in c rust; do
-    $RUN "$made/grant_$language" >"$made/grant_$language.txt"
+    if on_x86_64; then "$made/grant_$language"; else "$QEMU" "$made/grant_$language"; fi >"$made/grant_$language.txt"
     compare "$language" examples/grant.expected "$made/grant_$language.txt"
 done

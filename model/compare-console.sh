@@ -1,9 +1,9 @@
 #!/bin/sh
 # Compares a console with the model's on the same generated lines, byte for byte.
-#   model/compare-console.sh CONSOLE [count] [seed]
-# CONSOLE is a program that reads lines from standard input, and puts words behind the answers when
-# its argument is `words`, or what WORDS names: WORDS=--words model/compare-console.sh ./cabinet
-# Both modes are run. Ends with 0 if all is equal, with 1 at a difference.
+#   model/compare-console.sh CONSOLE [count] [seed]     after model/build.sh, with an archive or without
+# CONSOLE is ./cabinet, or another program that reads lines from standard input and puts words behind
+# the answers when its argument is `--words`, or what WORDS names. Both modes are run.
+# Ends with 0 if all is equal, with 1 at a difference.
 set -eu
 
 if [ $# -lt 1 ] || [ $# -gt 3 ]; then
@@ -13,21 +13,13 @@ fi
 count=${2:-50000}
 seed=${3:-1}
 if ! console=$(command -v "$1"); then
-    echo "$1: no such program" >&2
+    echo "compare-console.sh: no program $1" >&2
     exit 2
 fi
-case $console in
-    /*) ;;
-    *) console=$PWD/$console ;;
-esac
-
-# The two programs that need no archive, so that drivers linked with one stay as they are.
-cd "$(dirname "$0")"
-cargo build --release --offline --quiet --bin console --bin lines
-target=${CARGO_TARGET_DIR:-target}
-made=$target/compare-console
+here=$(dirname "$(readlink -f "$0")")
+made=$here/target/compare-console
 mkdir -p "$made"
-"$target/release/lines" "$count" "$seed" >"$made/lines.txt"
+"$here/run.sh" lines "$count" "$seed" >"$made/lines.txt"
 
 lines_in() {
     wc -l <"$1" | tr -d ' '
@@ -58,8 +50,8 @@ first_difference() {
 
 for mode in numbers words; do
     argument= theirs=
-    [ $mode = numbers ] || argument=words theirs=${WORDS:-words}
-    "$target/release/console" $argument <"$made/lines.txt" >"$made/model.txt"
+    [ $mode = numbers ] || argument=words theirs=${WORDS:---words}
+    "$here/run.sh" console $argument <"$made/lines.txt" >"$made/model.txt"
     "$console" $theirs <"$made/lines.txt" >"$made/console.txt" ||
         echo "$mode: $1 ended with $?" >&2
     if ! cmp -s "$made/model.txt" "$made/console.txt"; then

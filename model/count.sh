@@ -1,20 +1,25 @@
 #!/bin/sh
-# Counts the x86-64 instructions of the bench's actions, kernel beside model, by a trace of the emulator qemu-x86_64 (Debian's package
-# qemu-user), of which COUNT is the driver `count` built for x86-64 with the kernel's archive.
-#   model/count.sh COUNT
+# Counts the x86-64 instructions of the bench's actions, kernel beside model, in a trace of the emulator. Unlike times, the counts are the
+# same on every run; another compiler or C library changes them.
+#   model/count.sh     after model/build.sh ARCHIVE
 set -eu
-if [ $# -ne 1 ] || [ ! -x "$1" ]; then
-    echo "usage: count.sh COUNT, the built driver (model/target/release/count)" >&2
-    exit 2
-fi
-command -v qemu-x86_64 >/dev/null || { echo "count.sh: qemu-x86_64 is not found; Debian has it in qemu-user" >&2; exit 2; }
+here=$(dirname "$(readlink -f "$0")")
+. "$here/x86-64.sh"
+[ $# -eq 0 ] || lacking "usage: count.sh, after model/build.sh ARCHIVE"
+find_emulator
+case $("$here/run.sh" count | sed -n 1p) in
+    kernel*) ;;
+    *) lacking "no driver is built with a kernel: model/build.sh ARCHIVE" ;;
+esac
 made=$(mktemp -d)
 trap 'rm -rf "$made"' EXIT
+qemu=$(command -v "$QEMU")
 # One instruction a block, each block told: the name of the switch changed between versions of the emulator.
-one=-singlestep
-qemu-x86_64 -one-insn-per-tb /bin/true 2>/dev/null && one=-one-insn-per-tb
+one=-one-insn-per-tb
+"$qemu" -help | grep -q -e "$one" || one=-singlestep
 mkfifo "$made/trace"
-qemu-x86_64 $one -d exec,nochain,strace -D "$made/trace" "$1" >"$made/names" &
+# An empty environment and a short name: their lengths move the stack, and the C library copies in a few steps more or less as bytes lie.
+(cd "$here/target/drivers" && exec env -i "$qemu" $one -d exec,nochain,strace -D "$made/trace" ./count) >"$made/names" &
 awk '
     / write\(1,/ { cut++; if (cut > 1) count[cut - 1] = n; n = 0; next }
     /^Trace / { n++ }
@@ -33,7 +38,7 @@ sed 1d "$made/names" | awk -v counts="$made/counts" '
             if (part[2] == "nothing") { printf "%s\n", part[1]; base_kernel = taken[key "; kernel"]; base_model = n }
             else {
                 k = taken[key "; kernel"] - base_kernel; m = n - base_model
-                printf "  %-20s%9d%9d%9.1f\n", part[2], k, m, k / m
+                printf "  %-20s%9d%9d%9.2f\n", part[2], k, m, k / m
             }
         }
     }'

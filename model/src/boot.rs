@@ -14,8 +14,9 @@ const ENDPOINT: usize = 19;
 
 /// "Boot refuses only a wrong length ... with −19".
 pub fn boot(s: &mut [u8]) -> i32 {
-    let Ok(s) = <&mut State>::try_from(s) else {
-        return STATE;
+    let s = match <&mut State>::try_from(s) {
+        Ok(s) => s,
+        Err(_) => return STATE,
     };
     *s = [0; SIZE];
     // "a 32-entry table at slot 0"
@@ -60,8 +61,9 @@ pub fn tick(s: &mut [u8]) -> i32 {
     if !check(s) {
         return STATE;
     }
-    let Ok(s) = <&mut State>::try_from(s) else {
-        return STATE;
+    let s = match <&mut State>::try_from(s) {
+        Ok(s) => s,
+        Err(_) => return STATE,
     };
     let next = clock(s).wrapping_add(1);
     put(s, CLOCK, next);

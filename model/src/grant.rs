@@ -5,7 +5,7 @@ use crate::refusal::FLAG;
 /// Lower address, upper address (excluded), flags → the words N:C and P3.
 /// "Packing writes call number 3 and gives −5 for an address off 64 or flags above 63".
 pub fn pack(lower: u32, upper: u32, flags: u32) -> Result<(u32, u32), i32> {
-    if !lower.is_multiple_of(64) || !upper.is_multiple_of(64) || flags > 63 {
+    if lower % 64 != 0 || upper % 64 != 0 || flags > 63 {
         return Err(FLAG);
     }
     let n = (upper & 0xFFC0) | 3;

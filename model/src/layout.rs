@@ -85,10 +85,15 @@ pub fn position_of(directory: usize, position: usize) -> usize {
 
 /// "entries·32 bytes, rounded up to slots".
 pub fn table_slots(entries: usize) -> usize {
-    (ENTRY_BYTES * entries).div_ceil(SLOT_BYTES)
+    slots_of(ENTRY_BYTES * entries)
 }
 
 /// "(32 + 8·2^k) bytes, rounded up".
 pub fn directory_slots(number_order: u32) -> usize {
-    (HEADING_BYTES + (POSITION_BYTES << number_order)).div_ceil(SLOT_BYTES)
+    slots_of(HEADING_BYTES + (POSITION_BYTES << number_order))
+}
+
+/// Bytes "rounded up to slots".
+fn slots_of(bytes: usize) -> usize {
+    (bytes + SLOT_BYTES - 1) / SLOT_BYTES
 }

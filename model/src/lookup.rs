@@ -115,7 +115,7 @@ fn quiescent(s: &State, there: &Entry) -> Result<(), i32> {
 /// Answers the first slot.
 pub fn address(s: &State, memory: &Entry, address: u32, slots: usize) -> Result<usize, i32> {
     let end = address as u64 + (SLOT_BYTES * slots) as u64;
-    unless(address.is_multiple_of(SLOT_BYTES as u32), FLAG)?;
+    unless(address % SLOT_BYTES as u32 == 0, FLAG)?;
     // "the upper is excluded"
     unless(memory.low <= address && end <= memory.high as u64, FLAG)?;
     let first = (address - BASE) as usize / SLOT_BYTES;

@@ -103,8 +103,9 @@ fn bad_lines_are_bad() {
     let mut met: BTreeMap<String, usize> = BTreeMap::new();
     for _ in 0..20_000 {
         let line = bad.next(&mut rng);
-        let Err(wrong) = read(&line) else {
-            panic!("{:?} can be read", String::from_utf8_lossy(&line));
+        let wrong = match read(&line) {
+            Err(wrong) => wrong,
+            Ok(_) => panic!("{:?} can be read", String::from_utf8_lossy(&line)),
         };
         *met.entry(wrong.to_string()).or_default() += 1;
     }

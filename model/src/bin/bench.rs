@@ -7,7 +7,6 @@ use model::drive::command;
 use model::drive::prepared::{self, Prepared};
 use model::State;
 use shared::kernel::{announce, KERNEL};
-use std::hint::black_box;
 use std::time::Instant;
 
 fn main() {
@@ -58,9 +57,8 @@ fn median(runs: usize, s: &State, act: impl Fn(&mut State) -> i32, answer: i32) 
     let mut times: Vec<u128> = (0..runs)
         .map(|_| {
             *buffer = *s;
-            let buffer = black_box(&mut *buffer);
             let start = Instant::now();
-            let given = black_box(act(buffer));
+            let given = act(&mut buffer);
             let time = start.elapsed().as_nanos();
             assert_eq!(
                 given, answer,

@@ -7,35 +7,36 @@ use model::drive::api::{Api, MODEL};
 use model::drive::prepared::{self, Prepared};
 use model::State;
 use shared::kernel::{announce, KERNEL};
-use std::hint::black_box;
 
 fn main() {
     announce();
     for state in [prepared::boot(), prepared::small(), prepared::full()] {
         let title = format!("{}, {} rights", state.name, state.rights());
         // What the cutting itself costs.
-        both(&title, "nothing", &state.bytes, |_, _| 0);
-        both(&title, "check", &state.bytes, |api, s| {
-            (api.check)(&s[..]) as i32
-        });
-        both(&title, "tick", &state.bytes, |api, s| (api.tick)(&mut s[..]));
+        both(&title, "nothing", &state.bytes, |_, _| 0, 0);
+        let check = |api: &Api, s: &mut State| (api.check)(&s[..]) as i32;
+        both(&title, "check", &state.bytes, check, 1);
+        let tick = |api: &Api, s: &mut State| (api.tick)(&mut s[..]);
+        both(&title, "tick", &state.bytes, tick, 0);
         for call in &state.calls {
-            both(&title, call.name, &state.bytes, |api, s| {
-                (api.call)(&mut s[..], Prepared::CALLER, call.words)
-            });
+            let act =
+                |api: &Api, s: &mut State| (api.call)(&mut s[..], Prepared::CALLER, call.words);
+            both(&title, call.name, &state.bytes, act, 0);
         }
     }
 }
 
-fn both(title: &str, what: &str, s: &State, act: impl Fn(&Api, &mut State) -> i32) {
-    once(&format!("{title}; {what}; kernel"), s, |s| act(&KERNEL, s));
-    once(&format!("{title}; {what}; model"), s, |s| act(&MODEL, s));
+fn both(title: &str, what: &str, s: &State, act: impl Fn(&Api, &mut State) -> i32, answer: i32) {
+    let kernel = format!("{title}; {what}; kernel");
+    once(&kernel, s, |s| act(&KERNEL, s), answer);
+    let model = format!("{title}; {what}; model");
+    once(&model, s, |s| act(&MODEL, s), answer);
 }
 
-fn once(name: &str, s: &State, act: impl Fn(&mut State) -> i32) {
+fn once(name: &str, s: &State, act: impl Fn(&mut State) -> i32, answer: i32) {
     let mut buffer = Box::new(*s);
-    let buffer = black_box(&mut *buffer);
     println!("{name}");
-    black_box(act(buffer));
+    let given = act(&mut buffer);
     println!("end");
+    assert_eq!(given, answer, "{name}: not answered as prepared");
 }

@@ -46,16 +46,16 @@ type Made = (&'static str, Option<Level>, Vec<u8>);
 
 fn damaged(rng: &mut Rng, s: &State) -> Made {
     let mut state = Box::new(*s);
-    let damage = damages::at_random(&mut state, rng);
-    (damage.name, Some(damage.level), state.to_vec())
+    let Damage(name, level, _) = damages::at_random(&mut state, rng);
+    (name, Some(*level), state.to_vec())
 }
 
 /// A second damage without aim upon the first.
 fn twice_damaged(rng: &mut Rng, s: &State) -> Made {
     let mut state = Box::new(*s);
     damages::at_random(&mut state, rng);
-    let second: &Damage = &damages::LOOSE[rng.below(damages::LOOSE.len())];
-    let _ = (second.apply)(&mut state, rng);
+    let Damage(_, _, second) = &damages::LOOSE[rng.below(damages::LOOSE.len())];
+    let _ = second(&mut state, rng);
     ("two damages", None, state.to_vec())
 }
 

@@ -34,7 +34,7 @@ pub fn geometry(size: u32, number: u32, start: u32) -> bool {
     (6..=31).contains(&size)
         && (1..=8).contains(&number)
         && size + number <= 32
-        && (start as u64).is_multiple_of(1 << (size + number))
+        && start as u64 % (1 << (size + number)) == 0
 }
 
 /// Call 7: "C table DEL; P1 place".

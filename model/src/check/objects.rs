@@ -10,9 +10,8 @@ pub fn directory(s: &State, bytes: &[u8], number_order: u32) -> Result<(), Fault
     let (size_order, top, start) = (word(bytes, 0), word(bytes, 4), word(bytes, 8));
     // "size order 6..31, number order 1..8, sum at most 32, start a multiple of 2^sum"
     let spanned = size_order.saturating_add(number_order);
-    let geometry = (6..=31).contains(&size_order)
-        && spanned <= 32
-        && (start as u64).is_multiple_of(1 << spanned);
+    let geometry =
+        (6..=31).contains(&size_order) && spanned <= 32 && start as u64 % (1 << spanned) == 0;
     ensure(geometry, Fault::Geometry)?;
     ensure(top <= 1, Fault::TopMark)?;
     let end = HEADING_BYTES + (POSITION_BYTES << number_order);
@@ -30,7 +29,7 @@ fn position(s: &State, p: &[u8], size_order: u32) -> Result<(), Fault> {
     match p[0] {
         holds::NOTHING => return ensure(is_zero(p), Fault::EmptyPosition),
         // "a page's frame is a multiple of its size"
-        holds::PAGE => ensure(value.is_multiple_of(1 << size_order), Fault::Frame)?,
+        holds::PAGE => ensure(value % (1 << size_order) == 0, Fault::Frame)?,
         holds::CHILD => child(s, value, size_order)?,
         _ => return Err(Fault::PositionTag),
     }

@@ -102,8 +102,8 @@ fn fields(s: &State, right: &Entry) -> Result<(), Fault> {
     let in_range = match right.kind {
         // Kernel addresses at a slot; the high end may be the end of memory (docs/DECISIONS.md).
         kinds::MEMORY => {
-            low.is_multiple_of(SLOT_BYTES as u32)
-                && high.is_multiple_of(SLOT_BYTES as u32)
+            low % SLOT_BYTES as u32 == 0
+                && high % SLOT_BYTES as u32 == 0
                 && (BASE..END).contains(&low)
                 && (BASE..=END).contains(&high)
         }

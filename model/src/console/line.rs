@@ -83,8 +83,9 @@ pub fn read(line: &[u8]) -> Result<Line, Wrong> {
 
 /// The form first, then "word by word from the left".
 fn call(words: &[&[u8]]) -> Result<Line, Wrong> {
-    let [caller, w0, w1, w2, w3] = words else {
-        return Err(Wrong::Call(words.len()));
+    let (caller, w0, w1, w2, w3) = match words {
+        [caller, w0, w1, w2, w3] => (caller, w0, w1, w2, w3),
+        _ => return Err(Wrong::Call(words.len())),
     };
     let caller = number(1, caller)?;
     let words = [

@@ -227,7 +227,10 @@ impl Generator {
             }
             .words(number);
             made = (caller, words);
-            let Some(aim) = aim else { break };
+            let aim = match aim {
+                Some(aim) => aim,
+                None => break,
+            };
             *self.scratch = *s;
             let answer = crate::apply(&mut self.scratch, caller, words);
             if answer == aim || answer > 0 && aim > 0 {

@@ -32,9 +32,9 @@ pub const KERNEL: Api = Api {
 
 /// Says which kernel is linked, so that no self-test is taken for a comparison.
 pub fn announce() {
-    if cfg!(stub) {
+    if cfg!(feature = "stub") {
         println!("STUB: no archive was linked; the model is compared with itself.");
     } else {
-        println!("kernel: the archive of KERNEL_ARCHIVE");
+        println!("kernel: the archive that build.sh was given");
     }
 }

@@ -1,5 +1,5 @@
 //! The kernel that the drivers are linked with: the archive, or the stub in its stead.
 
 pub mod kernel;
-#[cfg(stub)]
+#[cfg(feature = "stub")]
 mod stub;

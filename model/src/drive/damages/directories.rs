@@ -1,7 +1,7 @@
 //! Damages of directories: the heading, the positions, the bytes between.
 
 use super::pick::{any_tagged, bit, one_of, set};
-use super::{damage, Damage, Level};
+use super::{Damage, Level};
 use crate::drive::look::firsts;
 use crate::drive::rng::Rng;
 use crate::kinds::PAGE_FLAGS;
@@ -9,7 +9,7 @@ use crate::layout::{argument, directory_slots, holds, memory_of, position_of, ta
 use crate::objects;
 
 pub const AIMED: [Damage; 10] = [
-    damage("directory: size order", Level::Word, |s, r| {
+    Damage("directory: size order", Level::Word, |s, r| {
         let at = memory_of(any_tagged(s, r, tag::DIRECTORY)?);
         let order = match r.below(4) {
             0 => r.within(0, 33),
@@ -19,15 +19,15 @@ pub const AIMED: [Damage; 10] = [
         };
         set(s, at, order)
     }),
-    damage("directory: top mark", Level::Word, |s, r| {
+    Damage("directory: top mark", Level::Word, |s, r| {
         let at = memory_of(any_tagged(s, r, tag::DIRECTORY)?) + 4;
         set(s, at, r.pick(&[0, 1, 2, 256, 257]))
     }),
-    damage("directory: a bit of start", Level::Bit, |s, r| {
+    Damage("directory: a bit of start", Level::Bit, |s, r| {
         let at = memory_of(any_tagged(s, r, tag::DIRECTORY)?) + 8;
         bit(s, r, at, at + 4)
     }),
-    damage("directory: padding", Level::Bit, |s, r| {
+    Damage("directory: padding", Level::Bit, |s, r| {
         let first = any_tagged(s, r, tag::DIRECTORY)?;
         let order = argument(s, first) as u32;
         let at = memory_of(first);
@@ -38,20 +38,20 @@ pub const AIMED: [Damage; 10] = [
             false => bit(s, r, at + 12, at + 32),
         }
     }),
-    damage("position: a bit", Level::Bit, |s, r| {
+    Damage("position: a bit", Level::Bit, |s, r| {
         let (_, at) = any_position(s, r)?;
         bit(s, r, at, at + 8)
     }),
-    damage("position: what it holds", Level::Byte, |s, r| {
+    Damage("position: what it holds", Level::Byte, |s, r| {
         let (_, at) = any_position(s, r)?;
         s[at] = r.within(0, 3) as u8;
         Some(())
     }),
-    damage("position: flags or padding", Level::Bit, |s, r| {
+    Damage("position: flags or padding", Level::Bit, |s, r| {
         let (_, at) = any_position(s, r)?;
         bit(s, r, at + 1, at + 4)
     }),
-    damage("position: a page", Level::Many, |s, r| {
+    Damage("position: a page", Level::Many, |s, r| {
         let (first, at) = any_position(s, r)?;
         let size = 1u32 << objects::size_order(s, first);
         let frame = r.word() & !(size - 1);
@@ -59,13 +59,13 @@ pub const AIMED: [Damage; 10] = [
         objects::hold(s, at, holds::PAGE, r.word() & 0x7F, frame | off);
         Some(())
     }),
-    damage("position: a child", Level::Many, |s, r| {
+    Damage("position: a child", Level::Many, |s, r| {
         let (first, at) = any_position(s, r)?;
         let child = a_child(s, r, first)?;
         objects::hold(s, at, holds::CHILD, r.word() & PAGE_FLAGS, child);
         Some(())
     }),
-    damage("position: a child's slot", Level::Word, |s, r| {
+    Damage("position: a child's slot", Level::Word, |s, r| {
         let first = any_tagged(s, r, tag::DIRECTORY)?;
         let hung = (0..objects::positions(s, first))
             .map(|i| position_of(first, i))

@@ -1,7 +1,7 @@
 //! Damages of table entries, field by field.
 
 use super::pick::{any_blank, any_place, any_right, bit, byte, change, change_at, change_child};
-use super::{damage, Damage, Level};
+use super::{Damage, Level};
 use crate::drive::look::firsts;
 use crate::drive::rng::Rng;
 use crate::entry::Entry;
@@ -9,15 +9,15 @@ use crate::kinds::{self, all_flags};
 use crate::layout::{argument, memory_of, tag, BASE, END};
 
 pub const AIMED: [Damage; 19] = [
-    damage("entry: a bit", Level::Bit, |s, r| {
+    Damage("entry: a bit", Level::Bit, |s, r| {
         let at = 32 * any_right(s, r)?;
         bit(s, r, at, at + 32)
     }),
-    damage("entry: a byte of a blank one", Level::Byte, |s, r| {
+    Damage("entry: a byte of a blank one", Level::Byte, |s, r| {
         let at = 32 * any_blank(s, r)?;
         byte(s, r, at, at + 32)
     }),
-    damage("entry: after an odd table's last", Level::Bit, |s, r| {
+    Damage("entry: after an odd table's last", Level::Bit, |s, r| {
         let odd = firsts(s, tag::TABLE)
             .into_iter()
             .filter(|&t| argument(s, t) % 2 == 1)
@@ -26,30 +26,30 @@ pub const AIMED: [Damage; 19] = [
         let at = memory_of(table) + 32 * argument(s, table) as usize;
         bit(s, r, at, at + 32)
     }),
-    damage("entry: kind", Level::Word, |s, r| {
+    Damage("entry: kind", Level::Word, |s, r| {
         change(s, r, |e, r| e.kind = r.within(0, 8))
     }),
-    damage("entry: kind with junk above", Level::Bit, |s, r| {
+    Damage("entry: kind with junk above", Level::Bit, |s, r| {
         change(s, r, |e, r| e.kind |= 1 << r.within(3, 31))
     }),
-    damage("entry: of no kind, all else zero", Level::Word, |s, r| {
+    Damage("entry: of no kind, all else zero", Level::Word, |s, r| {
         let place = any_blank(s, r)?;
         let kind = r.pick(&[7, 8, 9, 256, 1 << 31]);
         change_at(s, r, place, |e, _| e.kind = kind)
     }),
-    damage("entry: a flag bit", Level::Bit, |s, r| {
+    Damage("entry: a flag bit", Level::Bit, |s, r| {
         change(s, r, |e, r| e.flags ^= 1 << r.below(9))
     }),
-    damage("entry: low end", Level::Word, |s, r| {
+    Damage("entry: low end", Level::Word, |s, r| {
         change(s, r, |e, r| e.low = an_end(e, r))
     }),
-    damage("entry: high end", Level::Word, |s, r| {
+    Damage("entry: high end", Level::Word, |s, r| {
         change(s, r, |e, r| e.high = an_end(e, r))
     }),
-    damage("entry: both ends", Level::Many, |s, r| {
+    Damage("entry: both ends", Level::Many, |s, r| {
         change(s, r, |e, r| (e.low, e.high) = (an_end(e, r), an_end(e, r)))
     }),
-    damage("entry: object", Level::Word, |s, r| {
+    Damage("entry: object", Level::Word, |s, r| {
         change(s, r, |e, r| {
             e.object = match r.below(4) {
                 0 => r.within(0, 256),
@@ -59,16 +59,16 @@ pub const AIMED: [Damage; 19] = [
             }
         })
     }),
-    damage("entry: another's object, parent", Level::Many, |s, r| {
+    Damage("entry: another's object, parent", Level::Many, |s, r| {
         let other = Entry::read(s, any_right(s, r)?);
         change(s, r, |e, _| {
             (e.object, e.parent) = (other.object, other.parent)
         })
     }),
-    damage("entry: frozen mark", Level::Word, |s, r| {
+    Damage("entry: frozen mark", Level::Word, |s, r| {
         change(s, r, |e, r| e.frozen = r.pick(&[0, 1, 1, 2, 256]))
     }),
-    damage("entry: stamp", Level::Word, |s, r| {
+    Damage("entry: stamp", Level::Word, |s, r| {
         change(s, r, |e, r| {
             e.stamp = match r.below(3) {
                 0 => 0,
@@ -77,22 +77,22 @@ pub const AIMED: [Damage; 19] = [
             }
         })
     }),
-    damage("entry: frozen with a stamp", Level::Many, |s, r| {
+    Damage("entry: frozen with a stamp", Level::Many, |s, r| {
         change(s, r, |e, r| (e.frozen, e.stamp) = (1, r.word()))
     }),
-    damage("child: flags widened", Level::Word, |s, r| {
+    Damage("child: flags widened", Level::Word, |s, r| {
         change_child(s, r, |e, r| {
             let lacking = all_flags(e.kind) & !e.flags;
             e.flags |= lacking & r.word()
         })
     }),
-    damage("child: flags narrowed", Level::Word, |s, r| {
+    Damage("child: flags narrowed", Level::Word, |s, r| {
         change_child(s, r, |e, r| match r.chance(30) {
             true => e.flags = 0,
             false => e.flags &= r.word(),
         })
     }),
-    damage("child: an end by one step", Level::Word, |s, r| {
+    Damage("child: an end by one step", Level::Word, |s, r| {
         change_child(s, r, |e, r| {
             let step = if e.kind == kinds::MEMORY { 64 } else { 1 };
             match r.below(4) {
@@ -103,7 +103,7 @@ pub const AIMED: [Damage; 19] = [
             }
         })
     }),
-    damage("child: range inverted or empty", Level::Many, |s, r| {
+    Damage("child: range inverted or empty", Level::Many, |s, r| {
         let ranged = [kinds::DIRECTORY, kinds::MEMORY, kinds::FUNCTION];
         let place = any_place(s, r, |e| !e.is_root() && ranged.contains(&e.kind))?;
         change_at(s, r, place, |e, r| match r.below(4) {

@@ -23,15 +23,8 @@ pub enum Level {
 /// Damages a sound state, or answers None, the state untouched, if nothing there fits.
 pub type Apply = fn(&mut State, &mut Rng) -> Option<()>;
 
-pub struct Damage {
-    pub name: &'static str,
-    pub level: Level,
-    pub apply: Apply,
-}
-
-const fn damage(name: &'static str, level: Level, apply: Apply) -> Damage {
-    Damage { name, level, apply }
-}
+/// Its name, how much it touches, and how it is done.
+pub struct Damage(pub &'static str, pub Level, pub Apply);
 
 /// Damages aimed at no field; they fit any state, sound or not.
 pub static LOOSE: [Damage; 3] = small::LOOSE;
@@ -57,7 +50,7 @@ pub fn at_random(s: &mut State, r: &mut Rng) -> &'static Damage {
             i if i < n => aimed().nth(i),
             i => LOOSE.get(i - n),
         };
-        if let Some(damage) = damage.filter(|d| (d.apply)(s, r).is_some()) {
+        if let Some(damage) = damage.filter(|Damage(_, _, apply)| apply(s, r).is_some()) {
             return damage;
         }
     }

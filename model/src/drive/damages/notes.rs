@@ -1,7 +1,7 @@
 //! Damages of the slots' notes, of free slots, and of whole objects.
 
 use super::pick::{any_blank, any_object, any_tagged, bit};
-use super::{damage, Damage, Level};
+use super::{Damage, Level};
 use crate::drive::look::{free_run, places, slot_of};
 use crate::drive::rng::Rng;
 use crate::entry::{blank, Entry};
@@ -13,36 +13,36 @@ use crate::layout::{
 use crate::objects;
 
 pub const AIMED: [Damage; 11] = [
-    damage("note: a bit", Level::Bit, |s, r| bit(s, r, NOTES, CLOCK)),
-    damage("note: a bit of an object's", Level::Bit, |s, r| {
+    Damage("note: a bit", Level::Bit, |s, r| bit(s, r, NOTES, CLOCK)),
+    Damage("note: a bit of an object's", Level::Bit, |s, r| {
         let at = note_of(any_object(s, r)?);
         bit(s, r, at, at + 4)
     }),
-    damage("note: padding", Level::Bit, |s, r| {
+    Damage("note: padding", Level::Bit, |s, r| {
         let at = note_of(r.below(SLOTS)) + 2;
         bit(s, r, at, at + 2)
     }),
-    damage("note: tag", Level::Byte, |s, r| {
+    Damage("note: tag", Level::Byte, |s, r| {
         s[note_of(r.below(SLOTS))] = r.within(0, 6) as u8;
         Some(())
     }),
-    damage("note: argument", Level::Byte, |s, r| {
+    Damage("note: argument", Level::Byte, |s, r| {
         s[note_of(r.below(SLOTS)) + 1] = r.within(0, 70) as u8;
         Some(())
     }),
-    damage("note: size of an object by one", Level::Byte, |s, r| {
+    Damage("note: size of an object by one", Level::Byte, |s, r| {
         let at = note_of(any_object(s, r)?) + 1;
         s[at] = r.pick(&[s[at].wrapping_add(1), s[at].wrapping_sub(1)]);
         Some(())
     }),
-    damage("free slot: a bit", Level::Bit, |s, r| {
+    Damage("free slot: a bit", Level::Bit, |s, r| {
         let at = memory_of(any_tagged(s, r, tag::FREE)?);
         bit(s, r, at, at + 64)
     }),
-    damage("object: grown over what follows", Level::Many, overlap),
-    damage("object: past the end of memory", Level::Many, past_the_end),
-    damage("object: put up, or without root", Level::Many, put_up),
-    damage("object: taken down, or in part", Level::Many, take_down),
+    Damage("object: grown over what follows", Level::Many, overlap),
+    Damage("object: past the end of memory", Level::Many, past_the_end),
+    Damage("object: put up, or without root", Level::Many, put_up),
+    Damage("object: taken down, or in part", Level::Many, take_down),
 ];
 
 /// A table or directory is noted as larger than it is, with its later slots' notes to match.

@@ -4,7 +4,7 @@ use super::pick::{
     any_blank, any_child, any_right, any_root, any_tagged, change, change_at, change_child, one_of,
     set,
 };
-use super::{damage, Damage, Level};
+use super::{Damage, Level};
 use crate::drive::look::{firsts, places};
 use crate::drive::rng::Rng;
 use crate::entry::{blank, Entry};
@@ -12,29 +12,29 @@ use crate::kinds;
 use crate::layout::{argument, memory_of, put, table_slots, tag, word, State, PLACES, SLOTS};
 
 pub const AIMED: [Damage; 18] = [
-    damage("parent: any place", Level::Word, |s, r| {
+    Damage("parent: any place", Level::Word, |s, r| {
         change(s, r, |e, r| e.parent = r.within(0, PLACES as u32 + 2))
     }),
-    damage("parent: a high bit", Level::Bit, |s, r| {
+    Damage("parent: a high bit", Level::Bit, |s, r| {
         change_child(s, r, |e, r| e.parent |= 1 << r.within(9, 31))
     }),
-    damage("parent: another of its object", Level::Word, reparent),
-    damage("parent: itself", Level::Word, |s, r| {
+    Damage("parent: another of its object", Level::Word, reparent),
+    Damage("parent: itself", Level::Word, |s, r| {
         let place = any_right(s, r)?;
         set(s, 32 * place + 28, place as u32 + 1)
     }),
-    damage("parent: a blank entry", Level::Word, |s, r| {
+    Damage("parent: a blank entry", Level::Word, |s, r| {
         let parent = any_blank(s, r)? as u32 + 1;
         change_child(s, r, |e, _| e.parent = parent)
     }),
-    damage("parent: a copy outside all tables", Level::Many, outside),
-    damage(
+    Damage("parent: a copy outside all tables", Level::Many, outside),
+    Damage(
         "parent: what only looks like a right",
         Level::Many,
         lookalike,
     ),
-    damage("parents: a cycle of equals", Level::Many, cycle),
-    damage(
+    Damage("parents: a cycle of equals", Level::Many, cycle),
+    Damage(
         "parents: a cycle in the root's stead",
         Level::Many,
         |s, r| {
@@ -43,40 +43,40 @@ pub const AIMED: [Damage; 18] = [
             set(s, 32 * parent + 28, child as u32 + 1)
         },
     ),
-    damage("parents: a long chain", Level::Many, |s, r| {
+    Damage("parents: a long chain", Level::Many, |s, r| {
         chain(s, r, false)
     }),
-    damage("parents: a long chain, closed", Level::Many, |s, r| {
+    Damage("parents: a long chain, closed", Level::Many, |s, r| {
         chain(s, r, true)
     }),
-    damage("root: a second one", Level::Many, |s, r| {
+    Damage("root: a second one", Level::Many, |s, r| {
         let root = Entry::read(s, any_root(s, r)?);
         root.write(s, any_blank(s, r)?);
         Some(())
     }),
-    damage("root: a child made one", Level::Word, |s, r| {
+    Damage("root: a child made one", Level::Word, |s, r| {
         change_child(s, r, |e, _| e.parent = 0)
     }),
-    damage("root: a child made a whole one", Level::Many, |s, r| {
+    Damage("root: a child made a whole one", Level::Many, |s, r| {
         let place = any_child(s, r)?;
         let root = root_of(s, place)?;
         root.write(s, place);
         Some(())
     }),
-    damage("root: gone", Level::Many, |s, r| {
+    Damage("root: gone", Level::Many, |s, r| {
         let place = any_root(s, r)?;
         blank(s, place);
         Some(())
     }),
-    damage("right: copied", Level::Many, |s, r| {
+    Damage("right: copied", Level::Many, |s, r| {
         let child = Entry::read(s, any_child(s, r)?);
         child.write(s, any_blank(s, r)?);
         Some(())
     }),
-    damage("right: moved, children follow", Level::Many, |s, r| {
+    Damage("right: moved, children follow", Level::Many, |s, r| {
         move_right(s, r, true)
     }),
-    damage("right: moved, children stay", Level::Many, |s, r| {
+    Damage("right: moved, children stay", Level::Many, |s, r| {
         move_right(s, r, false)
     }),
 ];
