@@ -3,9 +3,9 @@ ghost use mathlib.Core.Bool.{true};
 ghost use mathlib.Core.Path.{_≡_};
 ghost use Prim.Native.Nat.{_+_, _*_, _≤_};
 ghost use lib.ListN.{length};
-ghost use Rattle.words.specs.Sizes.{headerSize, positionSize, stateLength};
+ghost use Rattle.words.specs.Sizes.{headerSize, mostSizeOrder, positionSize, stateLength};
 ghost use Rattle.words.specs.Tests.{allBelow};
-ghost use Rattle.state.specs.Bytes.{tagOf};
+ghost use Rattle.state.specs.Bytes.{directoryTag, tagOf};
 ghost use Rattle.state.specs.Read.{positionOf, read};
 ghost use Rattle.state.specs.State.{objAt};
 ghost use Rattle.rules.specs.WellFormed.{apart, geometric, hangs, objectOk, positionOk};
@@ -75,7 +75,7 @@ fn child_ok(s: &[u8], g: Geometry, o: Slot) -> bool
 
 // The position that starts at a byte of a part. Of an empty one the first byte is all that is read.
 fn position_ok(s: &[u8], g: Geometry, p: &[u8], at: usize) -> bool
-    requires { ⌜ (at + positionSize ≤ length (now p)) × (g .size ≤ 31) ⌝ }
+    requires { ⌜ (at + positionSize ≤ length (now p)) × (g .size ≤ mostSizeOrder) ⌝ }
     ensures { λ r. ⌜ r ≡ positionOk (read (now (s .entry))) g (positionOf (now (p .entry)) at) ⌝ }
 {
     let tag = p[at];
@@ -95,7 +95,7 @@ fn position_ok(s: &[u8], g: Geometry, p: &[u8], at: usize) -> bool
 }
 
 fn positions_ok(s: &[u8], g: Geometry, p: &[u8], n: usize) -> bool
-    requires { ⌜ (headerSize + positionSize * n ≤ length (now p)) × (g .size ≤ 31) ⌝ }
+    requires { ⌜ (headerSize + positionSize * n ≤ length (now p)) × (g .size ≤ mostSizeOrder) ⌝ }
     ensures { λ r. ⌜ r ≡ allBelow n (λ i. positionOk (read (now (s .entry))) g (positionOf (now (p .entry)) (headerSize + positionSize * i))) ⌝ }
 {
     let mut i: usize = 0;
@@ -109,7 +109,7 @@ fn positions_ok(s: &[u8], g: Geometry, p: &[u8], n: usize) -> bool
 }
 
 pub(crate) fn directory_ok(s: &[u8], k: Slot) -> bool
-    requires { ⌜ (length (now s) ≡ stateLength) × (apart (read (now s)) ≡ true) × (tagOf (objAt (read (now s)) k) ≡ 3) ⌝ }
+    requires { ⌜ (length (now s) ≡ stateLength) × (apart (read (now s)) ≡ true) × (tagOf (objAt (read (now s)) k) ≡ directoryTag) ⌝ }
     ensures { λ r. ⌜ r ≡ objectOk (read (now (s .entry))) k (objAt (read (now (s .entry))) k) ⌝ }
 {
     let g = shape_at(s, k);

@@ -4,7 +4,7 @@ ghost use mathlib.Core.Path.{_≡_};
 ghost use lib.ListN.{length};
 ghost use Rattle.audit_entries.specs.Heads.{Heads};
 ghost use Rattle.words.specs.Sizes.{slotCount, stateLength};
-ghost use Rattle.state.specs.Bytes.{tagOf};
+ghost use Rattle.state.specs.Bytes.{processTag, tableTag, tagOf};
 ghost use Rattle.state.specs.Read.{read};
 ghost use Rattle.state.specs.State.{objAt};
 ghost use Rattle.rules.specs.WellFormed.{apart, everyObject, objectOk};
@@ -23,7 +23,7 @@ use words::sizes::SLOT_COUNT;
 
 // "table of 1..64 entries"
 fn table_ok(s: &[u8], k: Slot) -> bool
-    requires { ⌜ tagOf (objAt (read (now s)) k) ≡ 2 ⌝ }
+    requires { ⌜ tagOf (objAt (read (now s)) k) ≡ tableTag ⌝ }
     ensures { λ r. ⌜ r ≡ objectOk (read (now (s .entry))) k (objAt (read (now (s .entry))) k) ⌝ }
 {
     let n = entries_in(s, k);
@@ -35,7 +35,7 @@ fn table_ok(s: &[u8], k: Slot) -> bool
 
 // "a process names a live table and a live top directory"
 fn process_ok(s: &[u8], k: Slot) -> bool
-    requires { ⌜ tagOf (objAt (read (now s)) k) ≡ 4 ⌝ }
+    requires { ⌜ tagOf (objAt (read (now s)) k) ≡ processTag ⌝ }
     ensures { λ r. ⌜ r ≡ objectOk (read (now (s .entry))) k (objAt (read (now (s .entry))) k) ⌝ }
 {
     if tag_at(s, table_named(s, k)) != TABLE_TAG {

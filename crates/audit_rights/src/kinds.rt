@@ -7,7 +7,7 @@ ghost use lib.ListN.{getD, length};
 ghost use Rattle.words.specs.Fields.{slot};
 ghost use Rattle.words.specs.Sizes.{entrySize};
 ghost use Rattle.words.specs.Tests.{_&_};
-ghost use Rattle.state.specs.Read.{read, wordAt};
+ghost use Rattle.state.specs.Read.{highAt, lowAt, objectAt, read, wordAt};
 ghost use Rattle.rules.specs.WellFormed.{endsOk, names, whole};
 ghost use Rattle.audit_rights.specs.ByWords.{kindFrom, memoryEnds};
 use audit_entries::word_in;
@@ -41,7 +41,7 @@ const LAST_FUNCTION_U64: u64 = LAST_FUNCTION as u64;
 // The kind of the entry that starts at a byte of a part, by its number.
 pub(crate) fn kind_in(p: &[u8], at: usize, number: u32) -> Kind
     requires { ⌜ at + entrySize ≤ length (now p) ⌝ }
-    ensures { λ r. ⌜ r ≡ kindFrom number (slot (getD (now (p .entry)) (at + 16) 0)) (wordAt (now (p .entry)) (at + 8)) (wordAt (now (p .entry)) (at + 12)) ⌝ }
+    ensures { λ r. ⌜ r ≡ kindFrom number (slot (getD (now (p .entry)) (at + objectAt) 0)) (wordAt (now (p .entry)) (at + lowAt)) (wordAt (now (p .entry)) (at + highAt)) ⌝ }
 {
     match number {
         TABLE_KIND => Kind::Table(Slot(p[at + OBJECT_AT])),

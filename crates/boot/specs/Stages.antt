@@ -27,6 +27,10 @@ withRights l =
     entered 5 (Endpoint (slot 19)) (entered 4 (Memory (address kernelStart) (address kernelEnd)) (entered 3 (Function 0 65535)
     (entered 2 (Process (slot 18)) (entered 1 (Directory (slot 16) 0 7) (entered 0 (Table (slot 0)) l)))))
 
+-- "number order 3": 2^3 positions
+abbrev pub bootPositions : ℕ
+bootPositions = 8
+
 -- "position i holding frame i·2^29 with all page flags"
 abbrev pub bootPage : ℕ → Position
 bootPage i = Page (i * 2 ^ 29) pageFlags

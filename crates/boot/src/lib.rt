@@ -7,7 +7,7 @@ ghost use Rattle.words.specs.Rights.{rootRight};
 ghost use Rattle.state.specs.Bytes.{bytes};
 ghost use Rattle.rules.specs.Boot;
 ghost use Rattle.boot.specs.Names.{Holds};
-ghost use Rattle.boot.specs.Stages.{withObjects, withRights, withPages, bootPage};
+ghost use Rattle.boot.specs.Stages.{bootPage, bootPositions, withObjects, withPages, withRights};
 use words::capabilities::Capability;
 use words::capabilities::Frost;
 use words::capabilities::Kind;
@@ -173,7 +173,7 @@ fn store_rights(s: &mut [u8])
 
 // "position i holding frame i·2^29 with all page flags"
 fn page_of(i: u32) -> Position
-    requires { ⌜ i < 8 ⌝ }
+    requires { ⌜ i < bootPositions ⌝ }
     ensures { λ r. ⌜ r ≡ bootPage i ⌝ }
 {
     Position::Page {
@@ -184,7 +184,7 @@ fn page_of(i: u32) -> Position
 
 fn store_pages(s: &mut [u8])
     requires { ⌜ length (now s) ≡ stateLength ⌝ }
-    ensures { λ _. ⌜ now (s .exit) ≡ withPages 8 (now (s .entry)) ⌝ }
+    ensures { λ _. ⌜ now (s .exit) ≡ withPages bootPositions (now (s .entry)) ⌝ }
 {
     let mut i: u32 = 0;
     while i < BOOT_POSITIONS {

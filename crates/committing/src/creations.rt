@@ -3,7 +3,7 @@ ghost use mathlib.Core.Bool.{true};
 ghost use mathlib.Core.Path.{_≡_};
 ghost use Prim.Native.Nat.{_+_, _*_, _^_, _≤_};
 ghost use lib.ListN.{length};
-ghost use Rattle.words.specs.Sizes.{slotSize, memoryLength, entrySize};
+ghost use Rattle.words.specs.Sizes.{slotSize, memoryLength, entrySize, mostNumberOrder};
 ghost use Rattle.words.specs.Rights.{rootRight};
 ghost use Rattle.words.specs.declared.actions.Action.the-variants.{CreateTable, CreateDirectory, CreateProcess, CreateEndpoint};
 ghost use Rattle.state.specs.Bytes.{bytes};
@@ -98,7 +98,7 @@ fn mark(top: bool) -> u32
 
 // "2^k entries, k from 1 to 8"
 fn positions_for(k: u32) -> u32
-    requires { ⌜ k ≤ 8 ⌝ }
+    requires { ⌜ k ≤ mostNumberOrder ⌝ }
     ensures { λ r. ⌜ (r ≡ 2 ^ k) × (1 ≤ r) × (r ≤ 256) ⌝ }
 {
     1 << k

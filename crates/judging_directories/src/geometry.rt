@@ -3,7 +3,7 @@
 ghost use mathlib.Core.Path.{_≡_};
 ghost use Prim.Native.Nat.{_%_, _*_, _+_, _^_, _≤_};
 ghost use lib.Dec.{eqb};
-ghost use Rattle.words.specs.Sizes.{headerSize, positionSize, slotsFor};
+ghost use Rattle.words.specs.Sizes.{headerSize, mostNumberOrder, mostOrderSum, positionSize, slotsFor};
 ghost use Rattle.rules.specs.Calls.{shapeAsked};
 ghost use Rattle.rules.specs.WellFormed.{geometric};
 use judging_numbers::lookups::has_flag;
@@ -39,7 +39,7 @@ pub(crate) fn shape_asked(w: Words) -> Geometry
 
 // Whether x is a multiple of 2^k. The power of 32 does not fit a word.
 fn is_multiple(x: u32, k: u32) -> bool
-    requires { ⌜ k ≤ 32 ⌝ }
+    requires { ⌜ k ≤ mostOrderSum ⌝ }
     ensures { λ r. ⌜ r ≡ eqb (x % 2 ^ k) 0 ⌝ }
 {
     let power: u64 = 1 << k;
@@ -71,7 +71,7 @@ pub(crate) fn is_geometric(g: Geometry) -> bool
 
 // "(32 + 8·2^k) bytes, rounded up"
 pub(crate) fn slots_taken(k: u32) -> u32
-    requires { ⌜ k ≤ 8 ⌝ }
+    requires { ⌜ k ≤ mostNumberOrder ⌝ }
     ensures { λ r. ⌜ (r ≡ slotsFor (headerSize + positionSize * 2 ^ k)) × (1 ≤ r) × (r ≤ 64) ⌝ }
 {
     let positions: u32 = 1 << k;

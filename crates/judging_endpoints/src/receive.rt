@@ -29,7 +29,7 @@ use words::sizes::MOST_TAKEN;
 
 // The two options that do not block.
 fn is_option(o: u32) -> bool
-    ensures { λ r. ⌜ r ≡ (eqb o 2 or eqb o 3) ⌝ }
+    ensures { λ r. ⌜ r ≡ (eqb o Calls.optionNS or eqb o Calls.optionNM) ⌝ }
 {
     if o == OPTION_NS {
         return true;

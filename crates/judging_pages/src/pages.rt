@@ -2,6 +2,7 @@
 ghost use mathlib.Core.Path.{_≡_};
 ghost use Prim.Native.Nat.{_*_, _+_, _<_, _^_, _≤_};
 ghost use lib.Dec.{ltb};
+ghost use Rattle.words.specs.Sizes.{mostSizeOrder};
 
 // "index ≥ 2^difference" is refused. No index reaches a power that does not fit a word.
 pub(crate) fn is_index(index: u32, difference: u32) -> bool
@@ -16,7 +17,7 @@ pub(crate) fn is_index(index: u32, difference: u32) -> bool
 
 // "Frame = source frame + index·2^(target order)"
 pub(crate) fn frame_in(frame: u32, index: u32, order: u32) -> u32
-    requires { ⌜ (order ≤ 31) × (frame + index * 2 ^ order < 2 ^ 32) ⌝ }
+    requires { ⌜ (order ≤ mostSizeOrder) × (frame + index * 2 ^ order < 2 ^ 32) ⌝ }
     ensures { λ r. ⌜ r ≡ frame + index * 2 ^ order ⌝ }
 {
     let size: u32 = 1 << order;

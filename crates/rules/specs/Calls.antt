@@ -264,19 +264,25 @@ send st t w = do
   ok! (SetCount e (count (countOf (objAt st e) + 1)) (count 0))
 
 -- ---- 19 receive: P1 endpoint, flag of its option; P2 option 0..3 = BS, BM, NS, NM. "−15 before the flag, after the kind"
+abbrev pub optionNS : ℕ
+optionNS = 2
+
+abbrev pub optionNM : ℕ
+optionNM = 3
+
 abbrev pub optionFlag : ℕ → ℕ
 optionFlag n = 1 + n
 
 -- "Receive NS takes min(1, count), NM takes min(count, 2^31−1)"
 abbrev pub most : ℕ → ℕ
-most n = choose (eqb n 2) 1 (2 ^ 31 - 1)
+most n = choose (eqb n optionNS) 1 (2 ^ 31 - 1)
 
 unfoldable pub receive : State → Slot → Words → Try Action
 receive st t w = do
   c ← lookup st t (capabilityNumber (w .p1))
   e ← asEndpoint (c .kind)
   -- "option 0, 1 or above 3"
-  need (eqb (w .p2) 2 or eqb (w .p2) 3) SivAct
+  need (eqb (w .p2) optionNS or eqb (w .p2) optionNM) SivAct
   need (has (c .flags) (optionFlag (w .p2))) CapFlag
   -- "the rest stays"
   ok! (SetCount e (count (countOf (objAt st e) - min (countOf (objAt st e)) (most (w .p2)))) (count (min (countOf (objAt st e)) (most (w .p2)))))

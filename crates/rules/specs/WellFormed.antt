@@ -8,7 +8,7 @@ use Rattle.state.specs.State.{Object, State, body, directory, endpoint, entries
 use Rattle.words.specs.Fields.{slot}
 use Rattle.words.specs.Refusals.{number}
 use Rattle.words.specs.Rights.{allFlags, inside, isRoot, kindNo, objectOf, pageFlags, subset}
-use Rattle.words.specs.Sizes.{kernelEnd, kernelStart, mostEntries, placeCount, slotCount, slotSize}
+use Rattle.words.specs.Sizes.{kernelEnd, kernelStart, leastNumberOrder, leastSizeOrder, mostEntries, mostNumberOrder, mostOrderSum, mostSizeOrder, placeCount, slotCount, slotSize}
 use Rattle.words.specs.Tests.{_&_, allBelow, sumBelow}
 use Rattle.rules.specs.Names.{Blank, Capability, Child, Directory, Empty, Endpoint, Frost, Frozen, Function, Geometry, Holds, Kind, Memory, Origin, Page, Place, Position, Process, Root, Slot, Table, Thawed, Under}
 
@@ -109,7 +109,9 @@ hangs g o = eqb (objectNo o) 2 & eqb (shapeOf o .size + shapeOf o .number) (g .s
 -- ---- "every field is in range"
 -- "size order 6..31, number order 1..8, sum at most 32, start a multiple of 2^sum"
 unfoldable pub geometric : Geometry → Bool
-geometric g = leb 6 (g .size) & leb (g .size) 31 & leb 1 (g .number) & leb (g .number) 8 & leb (g .size + g .number) 32 & eqb (g .start % 2 ^ (g .size + g .number)) 0
+geometric g =
+    leb leastSizeOrder (g .size) & leb (g .size) mostSizeOrder & leb leastNumberOrder (g .number) & leb (g .number) mostNumberOrder
+    & leb (g .size + g .number) mostOrderSum & eqb (g .start % 2 ^ (g .size + g .number)) 0
 
 unfoldable pub positionOk : State → Geometry → Position → Bool
 positionOk st g Empty = true

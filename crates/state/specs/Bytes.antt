@@ -67,13 +67,25 @@ abbrev pub memoryBytes : Object → List ℕ
 memoryBytes o = ownBytes o ++ replicate (slotSize * sizeOf o - length (ownBytes o)) 0
 
 -- ---- the bookkeeping, a note of four bytes a slot: tag, argument, two zeros
+abbrev pub tableTag : ℕ
+tableTag = 2
+
+abbrev pub directoryTag : ℕ
+directoryTag = 3
+
+abbrev pub processTag : ℕ
+processTag = 4
+
+abbrev pub endpointTag : ℕ
+endpointTag = 5
+
 abbrev pub tagOf : Object → ℕ
 tagOf free = 0
 tagOf (body h) = 1
-tagOf (table ps) = 2
-tagOf (directory g es) = 3
-tagOf (process t d) = 4
-tagOf (endpoint c b) = 5
+tagOf (table ps) = tableTag
+tagOf (directory g es) = directoryTag
+tagOf (process t d) = processTag
+tagOf (endpoint c b) = endpointTag
 
 -- the first slot, the entries or the number order
 abbrev pub argumentOf : Object → ℕ

@@ -5,7 +5,7 @@ use mathlib.Core.List.{List, [], _∷_}
 use Prim.Native.Nat.{ℕ, zero, suc, _+_, _*_, _-_, _^_}
 use lib.Dec.{eqb, leb}
 use lib.ListN.{getD, drop}
-use Rattle.words.specs.Sizes.{slotSize, slotCount, memoryLength, clockOffset, entrySize, headerSize}
+use Rattle.words.specs.Sizes.{slotSize, slotCount, memoryLength, clockOffset, entrySize, headerSize, mostNumberOrder, positionSize}
 use Rattle.words.specs.Tests.{choose}
 use Rattle.words.specs.Fields.{slot, address, count}
 use Rattle.state.specs.Names.{Slot, Kind, Table, Directory, Memory, Process, Endpoint, Function, Frost, Thawed, Frozen, Origin, Root, Under, Geometry, Place, Blank, Holds, Position, Empty, Page, Child}
@@ -49,11 +49,33 @@ placeFrom t o l h f x r =
     (choose (eqb t 6) (held (Function l h) f x r)
     Blank)))))
 
+-- where the fields of an entry stand behind its kind
+abbrev pub flagsAt : ℕ
+flagsAt = 4
+
+abbrev pub lowAt : ℕ
+lowAt = 8
+
+abbrev pub highAt : ℕ
+highAt = 12
+
+abbrev pub objectAt : ℕ
+objectAt = 16
+
+abbrev pub frozenAt : ℕ
+frozenAt = 20
+
+abbrev pub stampAt : ℕ
+stampAt = 24
+
+abbrev pub parentAt : ℕ
+parentAt = 28
+
 -- the entry whose bytes start at a byte of a list
 unfoldable pub placeOf : List ℕ → ℕ → Place
 placeOf l at =
-    placeFrom (wordAt l at) (slot (getD l (at + 16) 0)) (wordAt l (at + 8)) (wordAt l (at + 12)) (wordAt l (at + 4))
-    (frostFrom (wordAt l (at + 20)) (wordAt l (at + 24))) (originFrom (wordAt l (at + 28)))
+    placeFrom (wordAt l at) (slot (getD l (at + objectAt) 0)) (wordAt l (at + lowAt)) (wordAt l (at + highAt)) (wordAt l (at + flagsAt))
+    (frostFrom (wordAt l (at + frozenAt)) (wordAt l (at + stampAt))) (originFrom (wordAt l (at + parentAt)))
 
 -- ---- a position of a directory
 unfoldable pub positionFrom : ℕ → ℕ → ℕ → Slot → Position
@@ -64,7 +86,7 @@ positionOf l at = positionFrom (getD l at 0) (getD l (at + 1) 0) (wordAt l (at +
 
 -- "2^k entries, k from 1 to 8"; none where the number order is above 8
 unfoldable pub positionsFor : ℕ → ℕ
-positionsFor k = choose (leb k 8) (2 ^ k) 0
+positionsFor k = choose (leb k mostNumberOrder) (2 ^ k) 0
 
 -- ---- an object, from its note and from its memory
 abbrev pub shapeFrom : ℕ → List ℕ → Geometry
@@ -74,7 +96,7 @@ unfoldable pub objectFrom : ℕ → ℕ → List ℕ → Object
 objectFrom t a l =
     choose (eqb t 1) (body (slot a))
     (choose (eqb t 2) (table (listed a (λ i. placeOf l (entrySize * i))))
-    (choose (eqb t 3) (directory (shapeFrom a l) (listed (positionsFor a) (λ i. positionOf l (headerSize + 8 * i))))
+    (choose (eqb t 3) (directory (shapeFrom a l) (listed (positionsFor a) (λ i. positionOf l (headerSize + positionSize * i))))
     (choose (eqb t 4) (process (slot (getD l 0 0)) (slot (getD l 4 0)))
     (choose (eqb t 5) (endpoint (count (wordAt l 0)) (marked (wordAt l 4)))
     free))))

@@ -39,6 +39,22 @@ positionSize = 8
 abbrev pub mostEntries : ℕ
 mostEntries = 64
 
+-- "size order 6..31, number order 1..8, sum at most 32"
+abbrev pub leastSizeOrder : ℕ
+leastSizeOrder = 6
+
+abbrev pub mostSizeOrder : ℕ
+mostSizeOrder = 31
+
+abbrev pub leastNumberOrder : ℕ
+leastNumberOrder = 1
+
+abbrev pub mostNumberOrder : ℕ
+mostNumberOrder = 8
+
+abbrev pub mostOrderSum : ℕ
+mostOrderSum = 32
+
 -- one mark for each possible table entry: 256 slots of two entries
 abbrev pub placeCount : ℕ
 placeCount = 512
