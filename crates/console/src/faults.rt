@@ -1,57 +1,63 @@
 // What is wrong with a line, and what a right one looks like.
-use crate::out::OUT_LENGTH;
-use crate::out::put;
-use crate::out::put_byte;
-use crate::out::put_decimal;
 use lines::requests::Fault;
+use rows::say_row;
 
-fn put_word_number(out: &mut [u8; OUT_LENGTH], used: usize, k: u32) -> usize {
-    let u = put(out, used, b"word ");
-    put_decimal(out, u, k as u64)
+// A row of the reasons, and the number that it names behind the line's.
+struct Reason {
+    row: u32,
+    number: u64,
 }
 
-fn put_reason(out: &mut [u8; OUT_LENGTH], used: usize, f: Fault) -> usize {
+fn plain(row: u32) -> Reason {
+    Reason { row, number: 0 }
+}
+
+fn reason_of(f: Fault) -> Reason {
     match f {
-        Fault::AfterBoot => put(out, used, b"boot takes nothing after it"),
-        Fault::AfterShow => put(out, used, b"show takes nothing after it"),
-        Fault::TickForm => put(out, used, b"tick takes one number, as in: tick 8"),
-        Fault::Start => put(
-            out,
-            used,
-            b"begin with boot, tick, show or the caller's number",
-        ),
-        Fault::Count(k) => {
-            let u = put(
-                out,
-                used,
-                b"a call is five numbers, CALLER W0 W1 W2 W3, and here are ",
-            );
-            put_decimal(out, u, k as u64)
-        }
-        Fault::NotANumber(k) => {
-            let u = put_word_number(out, used, k);
-            put(out, u, b" is not a number (decimal, or hex as in 0x1F)")
-        }
-        Fault::TooLarge(k) => {
-            let u = put_word_number(out, used, k);
-            put(out, u, b" is above 4294967295")
-        }
+        Fault::AfterBoot => plain(0),
+        Fault::AfterShow => plain(1),
+        Fault::SaveForm => plain(2),
+        Fault::LoadForm => plain(3),
+        Fault::TickForm => plain(4),
+        Fault::Start => plain(5),
+        Fault::Count(k) => Reason {
+            row: 6,
+            number: k as u64,
+        },
+        Fault::NotANumber(k) => Reason {
+            row: 7,
+            number: k as u64,
+        },
+        Fault::TooLarge(k) => Reason {
+            row: 8,
+            number: k as u64,
+        },
     }
 }
 
-fn put_line_number(out: &mut [u8; OUT_LENGTH], used: usize, number: u64) -> usize {
-    let u = put(out, used, b"? line ");
-    let u = put_decimal(out, u, number);
-    put(out, u, b": ")
+const LONG_LINE: u32 = 9;
+
+fn say_reason(number: u64, r: Reason) {
+    say_row(
+        b"? line #: boot takes nothing after it\n\
+        ? line #: show takes nothing after it\n\
+        ? line #: save takes one file name without blanks, as in: save state.hex\n\
+        ? line #: load takes one file name without blanks, as in: load state.hex\n\
+        ? line #: tick takes one number, as in: tick 8\n\
+        ? line #: begin with boot, tick, show, save, load or the caller's number\n\
+        ? line #: a call is five numbers, CALLER W0 W1 W2 W3, and here are #\n\
+        ? line #: word # is not a number (decimal, or hex as in 0x1F)\n\
+        ? line #: word # is above 4294967295\n\
+        ? line #: longer than 1024 bytes\n",
+        r.row,
+        [number, r.number, 0, 0],
+    )
 }
 
-pub(crate) fn put_fault(out: &mut [u8; OUT_LENGTH], used: usize, number: u64, f: Fault) -> usize {
-    let u = put_line_number(out, used, number);
-    let u = put_reason(out, u, f);
-    put_byte(out, u, b'\n')
+pub(crate) fn say_fault(number: u64, f: Fault) {
+    say_reason(number, reason_of(f))
 }
 
-pub(crate) fn put_long_line(out: &mut [u8; OUT_LENGTH], used: usize, number: u64) -> usize {
-    let u = put_line_number(out, used, number);
-    put(out, u, b"longer than 1024 bytes\n")
+pub(crate) fn say_long_line(number: u64) {
+    say_reason(number, plain(LONG_LINE))
 }

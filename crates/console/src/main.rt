@@ -1,15 +1,13 @@
-// A person at the kernel: lines from standard input, each a boot, ticks, a call or a look at the state; docs/USING.md has their form.
-// The state, a line and what is to be printed have each a buffer of fixed length, however long the input is.
+// A person at the kernel: lines from standard input, each a boot, ticks, a call, a look at the state or a file of it; docs/USING.md has
+// their form.
+// The state, a line and a row that is printed have each a buffer of fixed length, however long the input is.
 mod answers;
 mod faults;
-mod out;
-mod rights;
-mod show;
+mod files;
 mod steps;
+mod texts;
 
-use crate::faults::put_long_line;
-use crate::out::OUT_LENGTH;
-use crate::out::flush;
+use crate::faults::say_long_line;
 use crate::steps::boot;
 use crate::steps::step;
 use libc::STDERR_FILENO;
@@ -17,34 +15,25 @@ use libc::STDIN_FILENO;
 use lines::gather::LINE_LENGTH;
 use lines::gather::first;
 use lines::gather::gather;
-use lines::requests::request_in;
 use words::sizes::STATE_LENGTH;
 
 // How much is read at a time.
 const CHUNK_LENGTH: usize = 4096;
 
-// How far the input has been read: the bytes of the line that is not yet ended (1,025 stands for any more than 1,024), the lines
-// before it, and how much waits to be printed.
+// How far the input has been read: the bytes of the line that is not yet ended (1,025 stands for any more than 1,024) and the
+// lines before it.
 struct Progress {
     length: usize,
     lines: u64,
-    used: usize,
 }
 
-// The line that ends here; answers how much waits to be printed.
-fn end_line(
-    s: &mut [u8; STATE_LENGTH],
-    line: &[u8],
-    p: Progress,
-    in_words: bool,
-    out: &mut [u8; OUT_LENGTH],
-) -> usize {
+// The line that ends here.
+fn end_line(s: &mut [u8; STATE_LENGTH], line: &[u8], p: Progress, in_words: bool) {
     let number = std::num::wrapping_add_u64(p.lines, 1);
     if LINE_LENGTH < p.length {
-        return put_long_line(out, p.used, number);
+        return say_long_line(number);
     }
-    let r = request_in(first(line, p.length));
-    step(s, r, number, in_words, out, p.used)
+    step(s, first(line, p.length), number, in_words);
 }
 
 fn take_byte(
@@ -53,21 +42,18 @@ fn take_byte(
     p: Progress,
     byte: u8,
     in_words: bool,
-    out: &mut [u8; OUT_LENGTH],
 ) -> Progress {
     let g = gather(line, p.length, byte);
     if !g.ended {
         return Progress {
             length: g.length,
             lines: p.lines,
-            used: p.used,
         };
     }
-    let used = end_line(s, line, p, in_words, out);
+    end_line(s, line, p, in_words);
     Progress {
         length: 0,
         lines: std::num::wrapping_add_u64(p.lines, 1),
-        used,
     }
 }
 
@@ -77,11 +63,10 @@ fn take_bytes(
     p: Progress,
     bytes: &[u8],
     in_words: bool,
-    out: &mut [u8; OUT_LENGTH],
 ) -> Progress {
     let mut now = p;
     for i in 0..bytes.len() {
-        now = take_byte(s, line, now, bytes[i], in_words, out);
+        now = take_byte(s, line, now, bytes[i], in_words);
     }
     now
 }
@@ -92,13 +77,12 @@ struct Turn {
     goes_on: bool,
 }
 
-// Reads what there is, does its lines and writes what they print before it waits again, so that a person sees each answer at once.
+// Reads what there is and does its lines before it waits again, so that a person sees each answer at once.
 fn read_once(
     s: &mut [u8; STATE_LENGTH],
     line: &mut [u8; LINE_LENGTH],
     p: Progress,
     in_words: bool,
-    out: &mut [u8; OUT_LENGTH],
 ) -> Turn {
     let mut chunk = [0u8; CHUNK_LENGTH];
     let got = libc::read(STDIN_FILENO, &mut chunk);
@@ -109,34 +93,22 @@ fn read_once(
             goes_on: false,
         };
     }
-    let now = take_bytes(s, line, p, &chunk[..n], in_words, out);
-    flush(out, now.used);
-    let progress = Progress {
-        length: now.length,
-        lines: now.lines,
-        used: 0,
-    };
+    let now = take_bytes(s, line, p, &chunk[..n], in_words);
     Turn {
-        progress,
+        progress: now,
         goes_on: true,
     }
 }
 
 // A proved loop has to end, and nothing says that the input does: the turns are counted down from a number that no run uses up.
-fn run(
-    s: &mut [u8; STATE_LENGTH],
-    line: &mut [u8; LINE_LENGTH],
-    in_words: bool,
-    out: &mut [u8; OUT_LENGTH],
-) {
+fn run(s: &mut [u8; STATE_LENGTH], line: &mut [u8; LINE_LENGTH], in_words: bool) {
     let mut p = Progress {
         length: 0,
         lines: 0,
-        used: 0,
     };
     let mut turns: u64 = 0xFFFFFFFFFFFFFFFF;
     while 0 < turns {
-        let t = read_once(s, line, p, in_words, out);
+        let t = read_once(s, line, p, in_words);
         p = t.progress;
         if !t.goes_on {
             break;
@@ -145,8 +117,7 @@ fn run(
     }
     // A last line that nothing ends is a line too.
     if 0 < p.length {
-        let used = end_line(s, line, p, in_words, out);
-        flush(out, used);
+        end_line(s, line, p, in_words);
     }
 }
 
@@ -177,9 +148,8 @@ fn first_argument() -> Argument {
 fn start(in_words: bool) {
     let mut s = [0u8; STATE_LENGTH];
     let mut line = [0u8; LINE_LENGTH];
-    let mut out = [0u8; OUT_LENGTH];
     boot(&mut s);
-    run(&mut s, &mut line, in_words, &mut out);
+    run(&mut s, &mut line, in_words);
 }
 
 fn main() {

@@ -1,13 +1,16 @@
-// What a line that was read does to the state, and what it prints.
-use crate::answers::put_answer;
-use crate::faults::put_fault;
-use crate::out::OUT_LENGTH;
-use crate::show::show;
+// What a line does to the state, and what it prints.
+use crate::answers::say_answer;
+use crate::faults::say_fault;
+use crate::texts::load;
+use crate::texts::save;
 use kernel::calls::kernel_call;
 use kernel::states::kernel_boot;
 use kernel::states::kernel_tick;
 use lines::requests::Call;
 use lines::requests::Request;
+use lines::requests::name_in;
+use lines::requests::request_in;
+use showing::show;
 use words::fields::CALL_NUMBERS;
 use words::fields::HALF;
 use words::sizes::STATE_LENGTH;
@@ -36,23 +39,19 @@ fn call_number(w0: u32) -> u32 {
     w0 / HALF % CALL_NUMBERS
 }
 
-pub(crate) fn step(
-    s: &mut [u8; STATE_LENGTH],
-    r: Request,
-    number: u64,
-    in_words: bool,
-    out: &mut [u8; OUT_LENGTH],
-    used: usize,
-) -> usize {
+// `number` is the line's.
+pub(crate) fn step(s: &mut [u8; STATE_LENGTH], line: &[u8], number: u64, in_words: bool) {
+    let r = request_in(line);
     match r {
-        Request::Nothing => used,
+        Request::Nothing => {}
         Request::Boot => {
             boot(s);
-            used
         }
-        Request::Show => show(s, out, used),
-        Request::Tick(k) => put_answer(out, used, ticks(s, k), 0, in_words),
-        Request::Call(c) => put_answer(out, used, call(s, c), call_number(c.w0), in_words),
-        Request::Unreadable(f) => put_fault(out, used, number, f),
+        Request::Show => show(s),
+        Request::Save => save(s, name_in(line), number, in_words),
+        Request::Load => load(s, name_in(line), number, in_words),
+        Request::Tick(k) => say_answer(ticks(s, k), 0, in_words),
+        Request::Call(c) => say_answer(call(s, c), call_number(c.w0), in_words),
+        Request::Unreadable(f) => say_fault(number, f),
     }
 }

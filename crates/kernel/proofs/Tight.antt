@@ -2,12 +2,22 @@
 use mathlib.Core.Path.{refl, _∙_, ap, sym}
 use Rattle.words.specs.Determined.{Determined}
 use Rattle.rules.specs.Buffer.{Outcome}
+use Rattle.hex.specs.Outcomes.{TextOutcome}
 use Rattle.kernel.specs.Script.{RunResult}
 use Rattle.kernel.specs.Grants.{WordsResult}
 use Rattle.kernel.proofs as kernel
 
 pub kernel-call : Determined kernel.calls.kernel_call.ended kernel.calls.kernel_call.Reads.Learnt
 kernel-call κs a x y v w p q = (ap (λ (o : Outcome). o .reply) (p ∙ sym q), ap (λ (o : Outcome). (o .buffer, v .1)) (p ∙ sym q))
+
+pub kernel-read-hex : Determined kernel.firmware.kernel_read_hex.ended kernel.firmware.kernel_read_hex.Reads.Learnt
+kernel-read-hex κs a x y v w p q = (ap (λ (o : Outcome). o .reply) (p ∙ sym q), ap (λ (o : Outcome). (tt, (o .buffer, tt))) (p ∙ sym q))
+
+pub kernel-hex-lines : Determined kernel.firmware.kernel_hex_lines.ended kernel.firmware.kernel_hex_lines.Reads.Learnt
+kernel-hex-lines κs a x y v w p q = (cc, refl)
+
+pub kernel-write-hex : Determined kernel.firmware.kernel_write_hex.ended kernel.firmware.kernel_write_hex.Reads.Learnt
+kernel-write-hex κs a x y v w p q = (ap (λ (o : TextOutcome). o .reply) (p ∙ sym q), ap (λ (o : TextOutcome). (tt, (o .text, tt))) (p ∙ sym q))
 
 pub kernel-pack : Determined kernel.grants.kernel_pack.ended kernel.grants.kernel_pack.Reads.Learnt
 kernel-pack κs a x y v w p q = (ap (λ (o : WordsResult). o .reply) (p ∙ sym q), ap (λ (o : WordsResult). (tt, (tt, (tt, (o .words, tt))))) (p ∙ sym q))

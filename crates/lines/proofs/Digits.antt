@@ -1,36 +1,18 @@
 -- Reading digits as the loop does: one character more, the end, and why a value above 4294967295 may be cut to one that stands for all.
-use mathlib.Core.Bool.{Bool, true, false}
 use mathlib.Core.List.{List, [], _∷_}
-use mathlib.Core.Path.{_≡_, refl, sym, _∙_}
+use mathlib.Core.Path.{_≡_, sym, _∙_}
 use Prim.Native.Nat.{ℕ, _+_, _*_, _<_, _≤_, min}
 use native.Mathlib.Decide.{decLe}
 use native.Mathlib.Nat.{min-eq-left, min-eq-right, mul-le-mul-left}
 use native.Mathlib.Numerals.{add-one}
 use native.Mathlib.Omega.{arith}
-use lib.Dec.{leb}
 use lib.ListN.{drop, drop-of-length-le, getD, length}
 use lib.Seq.{drop-cons}
-use borrow.Author.Tests.{le-leb, lt-leb, lt-ltb, le-ltb}
+use borrow.Author.Tests.{lt-leb, lt-ltb, le-ltb}
 use Rattle.words.specs.Tests.{_&_}
+use Rattle.digits.specs.Digits.{allDigits, digitOf}
 use Rattle.lines.specs.Names.{NotANumber, TooLarge}
-use Rattle.lines.specs.Numbers.{allDigits, digitOf, digitsOf, numberIn, sized, valueFrom, within}
-
--- ---- a character's class
-pub inside : (low high b : ℕ) → low ≤ b → b ≤ high → within low high b ≡ true
-unfolding within _&_
-inside low high b l h = rw (le-leb low b l, le-leb b high h)
-
-pub below : (low high b : ℕ) → b < low → within low high b ≡ false
-unfolding within _&_
-below low high b h = rw (lt-leb low b h)
-
-pub above : (low high b : ℕ) → high < b → within low high b ≡ false
-unfolding within _&_
-above low high b h = rw (lt-leb b high h) (last (leb low b))
-  where
-    last : (z : Bool) → (z & false) ≡ false
-    last true = refl
-    last false = refl
+use Rattle.lines.specs.Numbers.{digitsOf, numberIn, sized, valueFrom}
 
 -- ---- digits never make a value smaller
 grows : (base v : ℕ) (bs : List ℕ) → 1 ≤ base → v ≤ valueFrom base v bs

@@ -2,9 +2,10 @@
 use mathlib.Core.List.{[], _∷_, _++_}
 use mathlib.Core.Path.{_≡_, refl}
 use Rattle.words.specs.Tests.{_&_, _or_}
-use Rattle.lines.specs.Names.{Value, NotANumber, TooLarge, Nothing, Boot, Show, Tick, Call, Unreadable}
-use Rattle.lines.specs.Numbers.{allDigits, digitOf, digitsOf, hexadecimal, numberIn, numberOf, sized, valueFrom, within}
-use Rattle.lines.specs.Requests.{alone, askedBy, boot, callOf, fiveOf, operandAt, requestFrom, requestOf, show, tick, tickOf, unreturned}
+use Rattle.digits.specs.Digits.{allDigits, digitOf, within}
+use Rattle.lines.specs.Names.{Value, NotANumber, TooLarge, Nothing, Boot, Show, Save, Load, Tick, Call, Unreadable}
+use Rattle.lines.specs.Numbers.{digitsOf, hexadecimal, numberIn, numberOf, sized, valueFrom}
+use Rattle.lines.specs.Requests.{alone, askedBy, boot, callOf, fiveOf, load, nameIn, named, operandAt, requestFrom, requestOf, save, show, tick, tickOf, unreturned}
 use Rattle.lines.specs.Spans.{blank, leading, pastRun, solid, wordAfter}
 use Rattle.lines.specs.Words.{goesOn, grown, same, wordsOf}
 use Rattle.lines.specs.declared.requests.Fault.the-variants as fault
@@ -47,3 +48,20 @@ pub requests : (requestOf (32 ∷ 9 ∷ 13 ∷ []) ≡ Nothing)
     × (requestOf (49 ∷ 32 ∷ 50 ∷ 32 ∷ 51 ∷ 32 ∷ 52 ∷ 32 ∷ 53 ∷ 32 ∷ 54 ∷ []) ≡ Unreadable (fault.Count 6))
 unfolding _&_ _or_ allDigits alone askedBy blank callOf digitOf digitsOf fiveOf goesOn grown hexadecimal numberIn numberOf operandAt requestFrom requestOf same sized solid tickOf unreturned valueFrom within wordsOf
 requests = (refl, refl, refl, refl, refl, refl, refl, refl, refl, refl, refl, refl, refl, refl)
+
+-- `save a` with a tab behind it, `save`, `save a b`; `load #` before a carriage return, since only a first word makes a remark; `load`
+pub files : (requestOf (save ++ 32 ∷ 97 ∷ 9 ∷ []) ≡ Save)
+    × (requestOf save ≡ Unreadable fault.SaveForm)
+    × (requestOf (save ++ 32 ∷ 97 ∷ 32 ∷ 98 ∷ []) ≡ Unreadable fault.SaveForm)
+    × (requestOf (load ++ 32 ∷ 35 ∷ 13 ∷ []) ≡ Load)
+    × (requestOf load ≡ Unreadable fault.LoadForm)
+unfolding _&_ _or_ askedBy blank goesOn grown named requestFrom requestOf same solid unreturned wordsOf
+files = (refl, refl, refl, refl, refl)
+
+-- the name `ab` behind two spaces and before a carriage return, which inside a name is a part of it; a line of one word names nothing
+pub names : (nameIn (load ++ 32 ∷ 32 ∷ 97 ∷ 98 ∷ []) ≡ 97 ∷ 98 ∷ [])
+    × (nameIn (save ++ 32 ∷ 97 ∷ 98 ∷ 13 ∷ []) ≡ 97 ∷ 98 ∷ [])
+    × (nameIn (save ++ 32 ∷ 97 ∷ 13 ∷ 98 ∷ []) ≡ 97 ∷ 13 ∷ 98 ∷ [])
+    × (nameIn save ≡ [])
+unfolding _or_ blank goesOn grown nameIn solid unreturned wordsOf
+names = (refl, refl, refl, refl)

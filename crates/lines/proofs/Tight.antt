@@ -13,6 +13,9 @@ gather κs a x y v w p q = (cc, ap (λ b. (b, v .1)) (p .1 ∙ sym (q .1)))
 pub first : DeterminedAs lines.gather.first.ended (λ κs x. now x) lines.gather.first.Reads.Learnt
 first κs a x y v w p q = (cc, refl)
 
+pub name-in : DeterminedAs lines.requests.name_in.ended (λ κs x. now x) lines.requests.name_in.Reads.Learnt
+name-in κs a x y v w p q = (cc, refl)
+
 pub number-in : Determined lines.numbers.number_in.ended lines.numbers.number_in.Reads.Learnt
 number-in κs a x y v w p q = (cc, refl)
 

@@ -7,4 +7,4 @@ pub use Rattle.lines.specs.declared.requests.Fault.{Fault}
 pub use Rattle.lines.specs.declared.operands.Operand.{Operand}
 pub use Rattle.lines.specs.declared.operands.Operand.the-variants.{Is, Faulty}
 pub use Rattle.lines.specs.declared.requests.Request.{Request}
-pub use Rattle.lines.specs.declared.requests.Request.the-variants.{Nothing, Boot, Show, Tick, Call, Unreadable}
+pub use Rattle.lines.specs.declared.requests.Request.the-variants.{Nothing, Boot, Show, Save, Load, Tick, Call, Unreadable}

@@ -1,25 +1,12 @@
 -- "A number is decimal (18) or hexadecimal (0x20000500, either letter case after 0x), at most 4294967295."
-use mathlib.Core.Bool.{Bool, true}
+use mathlib.Core.Bool.{Bool}
 use mathlib.Core.List.{List, [], _∷_}
-use Prim.Native.Nat.{ℕ, _+_, _-_, _*_}
-use lib.Dec.{eqb, leb, ltb}
+use Prim.Native.Nat.{ℕ, _+_, _*_}
+use lib.Dec.{eqb, leb}
 use lib.ListN.{drop, getD}
 use Rattle.words.specs.Tests.{_&_, choose}
+use Rattle.digits.specs.Digits.{allDigits, digitOf}
 use Rattle.lines.specs.Names.{Number, Value, NotANumber, TooLarge}
-
-unfoldable pub within : ℕ → ℕ → ℕ → Bool
-within low high b = leb low b & leb b high
-
--- `0` to `9`, `A` to `F`, `a` to `f`; any other character counts 16, which is a digit in neither base
-unfoldable pub digitOf : ℕ → ℕ
-digitOf b =
-    choose (within 48 57 b) (b - 48)
-    (choose (within 65 70 b) (b - 65 + 10)
-    (choose (within 97 102 b) (b - 97 + 10) 16))
-
-unfoldable pub allDigits : ℕ → List ℕ → Bool
-allDigits base [] = true
-allDigits base (b ∷ bs) = ltb (digitOf b) base & allDigits base bs
 
 -- the value of digits that follow digits of value v
 unfoldable pub valueFrom : ℕ → ℕ → List ℕ → ℕ

@@ -4,8 +4,9 @@ use Prim.Native.Nat.{ℕ, _+_, _-_}
 use lib.Dec.{eqb}
 use lib.ListN.{getD, length, take}
 use Rattle.words.specs.Tests.{choose}
-use Rattle.lines.specs.Names.{Number, Value, NotANumber, TooLarge, Fault, Operand, Is, Faulty, Request, Nothing, Boot, Show, Tick, Call, Unreadable}
-use Rattle.lines.specs.Numbers.{numberOf, within}
+use Rattle.digits.specs.Digits.{within}
+use Rattle.lines.specs.Names.{Number, Value, NotANumber, TooLarge, Fault, Operand, Is, Faulty, Request, Nothing, Boot, Show, Save, Load, Tick, Call, Unreadable}
+use Rattle.lines.specs.Numbers.{numberOf}
 use Rattle.lines.specs.Words.{same, wordsOf}
 use Rattle.lines.specs.declared.requests.Fault.the-variants as fault
 
@@ -33,6 +34,10 @@ given (Faulty x) f = Unreadable x
 unfoldable pub alone : ℕ → Request → Fault → Request
 alone n asked more = choose (eqb n 1) asked (Unreadable more)
 
+-- a command that "takes one file name without blanks", in a line of n words
+unfoldable pub named : ℕ → Request → Fault → Request
+named n asked other = choose (eqb n 2) asked (Unreadable other)
+
 unfoldable pub tickOf : List (List ℕ) → Request
 tickOf ws = choose (eqb (length ws) 2) (given (operandAt ws 1) Tick) (Unreadable fault.TickForm)
 
@@ -56,6 +61,12 @@ boot = 98 ∷ 111 ∷ 111 ∷ 116 ∷ []
 abbrev pub show : List ℕ
 show = 115 ∷ 104 ∷ 111 ∷ 119 ∷ []
 
+abbrev pub save : List ℕ
+save = 115 ∷ 97 ∷ 118 ∷ 101 ∷ []
+
+abbrev pub load : List ℕ
+load = 108 ∷ 111 ∷ 97 ∷ 100 ∷ []
+
 abbrev pub tick : List ℕ
 tick = 116 ∷ 105 ∷ 99 ∷ 107 ∷ []
 
@@ -64,8 +75,10 @@ unfoldable pub askedBy : List ℕ → List (List ℕ) → Request
 askedBy w ws =
     choose (same w boot) (alone (length ws) Boot fault.AfterBoot)
     (choose (same w show) (alone (length ws) Show fault.AfterShow)
+    (choose (same w save) (named (length ws) Save fault.SaveForm)
+    (choose (same w load) (named (length ws) Load fault.LoadForm)
     (choose (same w tick) (tickOf ws)
-    (choose (within 48 57 (getD w 0 0)) (callOf ws) (Unreadable fault.Start))))
+    (choose (within 48 57 (getD w 0 0)) (callOf ws) (Unreadable fault.Start))))))
 
 -- "blank, or # first": nothing
 unfoldable pub requestFrom : List (List ℕ) → Request
@@ -75,3 +88,7 @@ requestFrom ws =
 
 unfoldable pub requestOf : List ℕ → Request
 requestOf line = requestFrom (wordsOf (unreturned line))
+
+-- the file that `save` and `load` name: word 1 from 0, empty where there is none
+unfoldable pub nameIn : List ℕ → List ℕ
+nameIn line = getD (wordsOf (unreturned line)) 1 []

@@ -1,8 +1,8 @@
-// The forms that a line can have: a command alone, a command with a number, a call.
+// The forms that a line can have: a command alone, a command with a file name, a command with a number, a call.
 ghost use mathlib.Core.Path.{_≡_};
 ghost use lib.ListN.{length};
 ghost use Rattle.lines.specs.Words.{wordsOf};
-ghost use Rattle.lines.specs.Requests.{alone, callOf, tickOf};
+ghost use Rattle.lines.specs.Requests.{alone, callOf, named, tickOf};
 use crate::operands::Operand;
 use crate::operands::operand_at;
 use crate::requests::Call;
@@ -17,6 +17,17 @@ pub(crate) fn command(n: usize, asked: Request, more: Fault) -> Request
         asked
     } else {
         Request::Unreadable(more)
+    }
+}
+
+// `save FILE` or `load FILE`, in a line of n words: any word is a name.
+pub(crate) fn file_command(n: usize, asked: Request, other: Fault) -> Request
+    ensures { λ r. ⌜ r ≡ named n asked other ⌝ }
+{
+    if n == 2 {
+        asked
+    } else {
+        Request::Unreadable(other)
     }
 }
 

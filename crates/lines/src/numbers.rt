@@ -2,25 +2,14 @@
 ghost use mathlib.Core.Path.{_≡_};
 ghost use Prim.Native.Nat.{_≤_, min};
 ghost use lib.ListN.{drop};
-ghost use Rattle.lines.specs.Numbers.{digitOf, numberIn, numberOf};
+ghost use Rattle.lines.specs.Numbers.{numberIn, numberOf};
 use crate::bytes::byte_at;
+use digits::digit;
 
 pub enum Number {
     Value(u32),
     NotANumber,
     TooLarge,
-}
-
-// What a character counts as a digit; 16 where it is none.
-fn digit(b: u8) -> u8
-    ensures { λ r. ⌜ r ≡ digitOf b ⌝ }
-{
-    match b {
-        b'0'..=b'9' => b - b'0',
-        b'A'..=b'F' => b - b'A' + 10,
-        b'a'..=b'f' => b - b'a' + 10,
-        _ => 16,
-    }
 }
 
 // Every value above 4294967295 ends alike, so one stands for all and no later sum wraps.

@@ -2,11 +2,12 @@
 ghost use mathlib.Core.Path.{_≡_};
 ghost use lib.ListN.{length};
 ghost use Rattle.lines.specs.Words.{wordsOf};
-ghost use Rattle.lines.specs.Requests.{askedBy, requestFrom, requestOf, unreturned};
+ghost use Rattle.lines.specs.Requests.{askedBy, nameIn, requestFrom, requestOf, unreturned};
 use crate::bytes::byte_at;
 use crate::bytes::is;
 use crate::forms::call_in;
 use crate::forms::command;
+use crate::forms::file_command;
 use crate::forms::tick_in;
 use crate::split::word;
 use crate::split::word_count;
@@ -15,6 +16,8 @@ use crate::split::word_count;
 pub enum Fault {
     AfterBoot,
     AfterShow,
+    SaveForm,
+    LoadForm,
     TickForm,
     Start,
     Count(usize),
@@ -35,6 +38,8 @@ pub enum Request {
     Nothing,
     Boot,
     Show,
+    Save,
+    Load,
     Tick(u32),
     Call(Call),
     Unreadable(Fault),
@@ -64,6 +69,12 @@ fn asked_by(first: &[u8], text: &[u8], n: usize) -> Request
     }
     if is(first, b"show") {
         return command(n, Request::Show, Fault::AfterShow);
+    }
+    if is(first, b"save") {
+        return file_command(n, Request::Save, Fault::SaveForm);
+    }
+    if is(first, b"load") {
+        return file_command(n, Request::Load, Fault::LoadForm);
     }
     if is(first, b"tick") {
         return tick_in(text, n);
@@ -96,4 +107,12 @@ pub fn request_in(line: &[u8]) -> Request
     ensures { λ r. ⌜ r ≡ requestOf (now (line .entry)) ⌝ }
 {
     words_ask(without_return(line))
+}
+
+// The file that a line names after `save` or `load`; empty where it has one word or none.
+pub fn name_in(line: &[u8]) -> &[u8]
+    ensures { λ r. ⌜ now r ≡ nameIn (now (line .entry)) ⌝ }
+{
+    let text = without_return(line);
+    word(text, 1)
 }

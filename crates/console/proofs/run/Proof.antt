@@ -5,10 +5,10 @@ use Rattle.console.proofs.run.Statement.{statement}
 use Rattle.console.proofs.run.Tie as tie
 
 abbrev Inv-loop : tie.InvT-loop
-Inv-loop s₀ line₀ in-words out₀ p₀ turns₀ s line out p turns = 0 ≤ turns
+Inv-loop s₀ line₀ in-words p₀ turns₀ s line p turns = 0 ≤ turns
 
 abbrev μ-loop : tie.MeasureT-loop
-μ-loop s₀ line₀ in-words out₀ p₀ turns₀ s line out p turns = turns
+μ-loop s₀ line₀ in-words p₀ turns₀ s line p turns = turns
 
 loop-holds : tie.Need-loop-holds Inv-loop μ-loop
 loop-holds c = search needs
@@ -28,9 +28,6 @@ loop-again c = search needs
 end-line-requires : tie.Need-end-line-requires Inv-loop μ-loop
 end-line-requires c κs = search needs
 
-flush-requires : tie.Need-flush-requires Inv-loop μ-loop
-flush-requires c κs = search needs
-
 returns : tie.Need-returns Inv-loop μ-loop
 returns c = search needs
 
@@ -49,6 +46,5 @@ run-spec =
     loop-less
     loop-again
     end-line-requires
-    flush-requires
     returns
     returns-2)

@@ -7,10 +7,10 @@ use Rattle.console.proofs.take_bytes.Statement.{statement}
 use Rattle.console.proofs.take_bytes.Tie as tie
 
 abbrev Inv-loop : tie.InvT-loop
-Inv-loop s₀ line₀ bytes in-words out₀ now₀ i₀ i-end s line out now i = (i ≤ i-end) × (i-end ≡ length bytes)
+Inv-loop s₀ line₀ bytes in-words now₀ i₀ i-end s line now i = (i ≤ i-end) × (i-end ≡ length bytes)
 
 abbrev μ-loop : tie.MeasureT-loop
-μ-loop s₀ line₀ bytes in-words out₀ now₀ i₀ i-end s line out now i = i-end - i
+μ-loop s₀ line₀ bytes in-words now₀ i₀ i-end s line now i = i-end - i
 
 loop-holds : tie.Need-loop-holds Inv-loop μ-loop
 loop-holds c = search needs

@@ -1,0 +1,12 @@
+pub mod Names
+pub mod Marks
+pub mod Bytes
+pub mod Pairs
+pub mod Records
+pub mod Lines
+pub mod HexLines
+pub mod Reading
+pub mod Writing
+pub mod Tolerance
+pub mod Outcomes
+pub mod Cases

@@ -1,0 +1,34 @@
+-- `showing::say_entries`: e rises to n.
+use Prim.Native.Nat.{_≤_, _-_}
+use borrow.Author.Needs.{needs}
+use Rattle.showing.proofs.say_entries.Statement.{statement}
+use Rattle.showing.proofs.say_entries.Tie as tie
+
+abbrev Inv-loop : tie.InvT-loop
+Inv-loop s t n e₀ e = e ≤ n
+
+abbrev μ-loop : tie.MeasureT-loop
+μ-loop s t n e₀ e = n - e
+
+loop-holds : tie.Need-loop-holds Inv-loop μ-loop
+loop-holds c = search needs
+
+say-entry-requires : tie.Need-say-entry-requires Inv-loop μ-loop
+say-entry-requires c κs = search needs
+
+add-e : tie.Need-add-e Inv-loop μ-loop
+add-e c = search needs
+
+loop-less : tie.Need-loop-less Inv-loop μ-loop
+loop-less c = search needs
+
+loop-again : tie.Need-loop-again Inv-loop μ-loop
+loop-again c = search needs
+
+returns : tie.Need-returns Inv-loop μ-loop
+returns c = search needs
+
+pub say-entries-spec : {M : Type 1} → statement M
+say-entries-spec =
+    tie.close
+    (tie.spec Inv-loop μ-loop loop-holds say-entry-requires add-e loop-less loop-again returns)
