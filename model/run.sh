@@ -1,6 +1,7 @@
 #!/bin/sh
 # Runs a driver that model/build.sh has built; where it is for another processor, under the emulator.
-#   model/run.sh DRIVER [ARGUMENTS]     DRIVER: bench, compare, console, count, damage, lines, replay or vectors
+#   model/run.sh DRIVER [ARGUMENTS]     DRIVER: bench, compare, console, count, damage, hex, hex_cases, lines,
+#                                         replay or vectors
 set -eu
 here=$(dirname "$(readlink -f "$0")")
 . "$here/x86-64.sh"

@@ -1,4 +1,5 @@
-//! An independent model of the capability kernel, written from document 01 and docs/LAYOUT.md.
+//! An independent model of the capability kernel, written from document 01 and docs/LAYOUT.md, and
+//! of its text for the firmware loader, from request 102 of document 02.
 //! It works on the bytes of a state and is what the proved kernel is compared with.
 #![forbid(unsafe_code)]
 
@@ -9,6 +10,7 @@ pub mod console;
 pub mod drive;
 mod entry;
 mod grant;
+pub mod hex;
 pub mod kinds;
 pub mod layout;
 mod lookup;

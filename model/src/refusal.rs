@@ -20,6 +20,17 @@ pub const NUMBER: i32 = -17;
 pub const CALLER: i32 = -18;
 pub const STATE: i32 = -19;
 
+/// "character, line end, length or type other than 00, 01, 04".
+pub const HEX_LINE: i32 = -30;
+/// "record sum".
+pub const HEX_SUM: i32 = -31;
+/// "address overlap or outside, and a gap".
+pub const HEX_ADDRESS: i32 = -32;
+/// "no end record or text after it".
+pub const HEX_END: i32 = -33;
+/// "output under 48,076 bytes".
+pub const HEX_ROOM: i32 = -34;
+
 /// `Ok(())` if the refusal is not due.
 pub fn unless(holds: bool, refusal: i32) -> Result<(), i32> {
     if holds {

@@ -1,6 +1,9 @@
 //! The console against docs/USING.md: what it prints for each sort of line, in each mode.
 
-use model::console::{in_words, run, success, DONE};
+use model::console::{in_words, of_load, run, success, DONE};
+use model::hex::{written, WRITTEN};
+use std::fs;
+use std::path::PathBuf;
 
 /// The page itself, so that its own texts are what is expected.
 const PAGE: &str = include_str!("../../docs/USING.md");
@@ -104,7 +107,8 @@ fn every_fault() {
     let long = "x".repeat(1025);
     let session = format!(
         "{long}\nboot now\n\nshow 1\ntick\ntick 1 2\n# a comment\nstart\n18 0 0 0\n0 0 0 0 0 0\n\
-         18 0x140003 0 x 0\n18 0x140003 0 0 4294967296\ntick a\ntick 0x100000000\n"
+         18 0x140003 0 x 0\n18 0x140003 0 0 4294967296\ntick a\ntick 0x100000000\n\
+         save\nsave my state.hex\nload\nload state.hex #\n"
     );
     let expected = "\
 ? line 1: longer than 1024 bytes
@@ -112,13 +116,17 @@ fn every_fault() {
 ? line 4: show takes nothing after it
 ? line 5: tick takes one number, as in: tick 8
 ? line 6: tick takes one number, as in: tick 8
-? line 8: begin with boot, tick, show or the caller's number
+? line 8: begin with boot, tick, show, save, load or the caller's number
 ? line 9: a call is five numbers, CALLER W0 W1 W2 W3, and here are 4
 ? line 10: a call is five numbers, CALLER W0 W1 W2 W3, and here are 6
 ? line 11: word 4 is not a number (decimal, or hex as in 0x1F)
 ? line 12: word 5 is above 4294967295
 ? line 13: word 2 is not a number (decimal, or hex as in 0x1F)
 ? line 14: word 2 is above 4294967295
+? line 15: save takes one file name without blanks, as in: save state.hex
+? line 16: save takes one file name without blanks, as in: save state.hex
+? line 17: load takes one file name without blanks, as in: load state.hex
+? line 18: load takes one file name without blanks, as in: load state.hex
 ";
     assert_eq!(answers(&session), expected);
     // The mode changes nothing here, and no such line changes the state.
@@ -136,15 +144,17 @@ fn faults_as_the_page_has_them() {
         ("boot boot".into(), "something after `boot`"),
         ("show boot".into(), "something after `show`"),
         ("tick".into(), "`tick` with no word or several after it"),
-        (
-            "Tick 8".into(),
-            "a first word that is none of the three and begins with no digit",
-        ),
     ];
     for (line, what) in cases {
         let row = PAGE.lines().find(|row| row.contains(what)).unwrap();
         let message = row.split('`').rev().nth(1).unwrap();
         assert_eq!(answers(&line), format!("? line 1: {message}\n"));
+    }
+    // These stand on the page as they are.
+    for line in ["Tick 8", "save", "load a b", "save ./no/x", "load ./no/x"] {
+        let given = answers(line);
+        let message = given.strip_prefix("? line 1: ").unwrap().trim_end();
+        assert!(PAGE.contains(&format!("`{message}`")), "{message}");
     }
 }
 
@@ -174,6 +184,10 @@ fn the_first_fault_is_printed() {
         ("-18 0 0 0 0", "begin with"),
         ("BOOT", "begin with"),
         ("boots", "begin with"),
+        ("Save state.hex", "begin with"),
+        ("loads state.hex", "begin with"),
+        ("save 1 2", "save takes one file name"),
+        ("load 1 2", "load takes one file name"),
     ];
     for (line, begins) in cases {
         let given = answers(line);
@@ -293,13 +307,13 @@ fn bytes_and_ends() {
     assert_eq!(answers("tick 0"), "0\n");
     assert_eq!(
         answers("\n\nx"),
-        "? line 3: begin with boot, tick, show or the caller's number\n"
+        "? line 3: begin with boot, tick, show, save, load or the caller's number\n"
     );
     // Carriage returns elsewhere are parts of words.
     let word_5 = "? line 1: word 5 is not a number (decimal, or hex as in 0x1F)\n";
     assert_eq!(answers("18 0x140003 0 0 0\r\r\n"), word_5);
     assert_eq!(answers("18 0x140003 0 0 0\r \n"), word_5);
-    let beginning = "? line 1: begin with boot, tick, show or the caller's number\n";
+    let beginning = "? line 1: begin with boot, tick, show, save, load or the caller's number\n";
     assert_eq!(answers("boot\r\r\n"), beginning);
     let nothing_else: [&[u8]; 5] = [b"\x0B", b"\x0C", b"\xC2\xA0", b"\0boot", b"\xFF\xFE"];
     for bytes in nothing_else {
@@ -309,21 +323,26 @@ fn bytes_and_ends() {
     assert_eq!(said(b"# \xFF\xFE\0\n", false), "");
 }
 
-/// The second column of the page's "Refusals" is what stands behind each refusal.
+/// The second column of the page's "Refusals" is what stands behind each refusal: a call's, and
+/// behind the line at fault a load's.
 #[test]
 fn refusals_in_words() {
-    let mut met = 0;
-    for row in PAGE
-        .lines()
-        .filter(|row| row.starts_with("| -") && !row.contains("---"))
-    {
+    let (mut calls, mut loads) = (vec![], vec![]);
+    for row in PAGE.lines().filter(|row| row.starts_with("| -")) {
         let mut columns = row.split('|').map(str::trim).skip(1);
         let answer: i32 = columns.next().unwrap().parse().unwrap();
         let meaning = columns.next().unwrap().trim_matches('`');
-        assert_eq!(in_words(answer, DONE), meaning);
-        met += 1;
+        match answer {
+            -19..=-1 if in_words(answer, DONE) == meaning => calls.push(answer),
+            -33..=-30 | -19 if of_load(answer) == meaning => loads.push(answer),
+            // Too short an output, which a console does not lend.
+            -34 => {}
+            _ => panic!("{answer} {meaning}"),
+        }
     }
-    assert_eq!(met, 19);
+    assert!(calls.into_iter().eq((1..=19).map(|n| -n)));
+    loads.sort();
+    assert_eq!(loads, [-33, -32, -31, -30, -19]);
 }
 
 #[test]
@@ -367,4 +386,109 @@ tick 0
     // Only N[5:0] tells the call.
     assert_eq!(success(0xFFD3_FFFF), "done: the signals taken");
     assert_eq!(success(0x0033_0000), DONE);
+}
+
+/// A folder for the files of one test.
+fn folder(name: &str) -> PathBuf {
+    let folder = std::env::temp_dir().join(format!("model-{name}-{}", std::process::id()));
+    let _ = fs::remove_dir_all(&folder);
+    fs::create_dir(&folder).unwrap();
+    folder
+}
+
+/// Each line with `@` for the folder.
+fn said_in(folder: &PathBuf, session: &str, words: bool) -> String {
+    let named = session.replace('@', &format!("{}/", folder.display()));
+    said(named.as_bytes(), words)
+}
+
+/// "made or overwritten", and "the state becomes the one that FILE's text gives".
+#[test]
+fn save_and_load() {
+    let folder = folder("save");
+    let session = "tick 3\nsave @a.hex\ntick 5\nsave @b.hex\nboot\nload @a.hex\nshow\n";
+    let given = said_in(&folder, session, false);
+    assert_eq!(
+        given,
+        format!("0\n0\n0\n0\n0\n{BOOT_STATE_AFTER_THREE_TICKS}")
+    );
+    let (a, b) = (folder.join("a.hex"), folder.join("b.hex"));
+    let text = fs::read(&a).unwrap();
+    assert!(text.len() == WRITTEN && text != fs::read(&b).unwrap());
+    // Overwritten, a longer file too.
+    fs::write(&b, vec![b'x'; 100_000]).unwrap();
+    let given = said_in(&folder, "load @a.hex\nsave @b.hex\n", true);
+    assert_eq!(
+        given,
+        "0 done: the state is the file's\n0 done: the state's text is in the file\n"
+    );
+    assert!(fs::read(&b).unwrap() == text);
+    // Blanks and a carriage return around the two words.
+    let given = said_in(&folder, " \tload\t @b.hex \r\nsave @c\r\n", false);
+    assert_eq!(given, "0\n0\n");
+    assert!(fs::read(folder.join("c")).unwrap() == text);
+    fs::remove_dir_all(&folder).unwrap();
+}
+
+/// "a refused file leaves it": the refusal and the line at fault, in words what they mean.
+#[test]
+fn refused_files() {
+    let folder = folder("load");
+    let mut s = [0; model::SIZE];
+    model::boot(&mut s);
+    let whole = written(&s);
+    let changed = |at: usize, to: &[u8]| {
+        let mut text = whole.clone();
+        text.splice(at..at + to.len(), to.iter().copied());
+        text
+    };
+    let cases: [(Vec<u8>, &str); 7] = [
+        (changed(17 + 44, b"x"), "-30 line 3: no record stands here: a character, the line's end, the length or the type is wrong; make the file anew"),
+        (whole[..WRITTEN - 1].to_vec(), "-30 line 1094: no record stands here: a character, the line's end, the length or the type is wrong; make the file anew"),
+        (changed(13, b"00"), "-31 line 1: the record's sum is wrong: the line was altered; fetch the file again"),
+        (whole[16..].to_vec(), "-32 line 1: bytes outside 20000000..20004440 or given twice, or at the end record bytes that no line gave; place the state at 0x20000000"),
+        (vec![], "-33 line 1: the file ends here without its end record, or goes on behind it; fetch the file again"),
+        ([&whole[..], b"\n"].concat(), "-33 line 1095: the file ends here without its end record, or goes on behind it; fetch the file again"),
+        (changed(25, b"09000000FF0000000000000000000000E8"), "-19 no such state: the lines are right, but what they give is not well formed; save a state anew"),
+    ];
+    for (text, expected) in cases {
+        fs::write(folder.join("f"), text).unwrap();
+        let given = said_in(&folder, "tick 3\nload @f\nshow\n", true);
+        let after = format!("0 done\n{expected}\n{BOOT_STATE_AFTER_THREE_TICKS}");
+        assert_eq!(given, after);
+        let plain = expected.split(':').next().unwrap();
+        let plain = plain.trim_end_matches(" no such state");
+        assert_eq!(said_in(&folder, "load @f", false), format!("{plain}\n"));
+    }
+    fs::remove_dir_all(&folder).unwrap();
+}
+
+/// Files that cannot be written or read, and the longest that is.
+#[test]
+fn files_and_their_troubles() {
+    let folder = folder("files");
+    let cannot_write =
+        "? line 1: cannot write that file: look at its name, its folder and the room there\n";
+    let cannot_read = "? line 1: cannot read that file: look at its name and who may read it\n";
+    for name in ["@no/x", "@", "@.", "@x\0"] {
+        assert_eq!(
+            said_in(&folder, &format!("save {name}"), true),
+            cannot_write
+        );
+        assert_eq!(said_in(&folder, &format!("load {name}"), true), cannot_read);
+    }
+    assert_eq!(said_in(&folder, "load @x", false), cannot_read);
+    // "wholly written": there is no room.
+    assert_eq!(answers("save /dev/full"), cannot_write);
+    fs::write(folder.join("x"), vec![b'\n'; 262_144]).unwrap();
+    assert_eq!(said_in(&folder, "load @x", false), "-30 line 1\n");
+    fs::write(folder.join("x"), vec![b'\n'; 262_145]).unwrap();
+    assert_eq!(
+        said_in(&folder, "\nload @x\n", false),
+        "? line 2: that file is longer than 262144 bytes, more than a state's text needs\n"
+    );
+    assert!(
+        PAGE.contains("`that file is longer than 262144 bytes, more than a state's text needs`")
+    );
+    fs::remove_dir_all(&folder).unwrap();
 }

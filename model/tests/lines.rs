@@ -12,7 +12,7 @@ const COUNT: usize = 50_000;
 
 /// Without the newline that each has, and that each has once.
 fn lines(seed: u64) -> Vec<Vec<u8>> {
-    Lines::new(seed)
+    Lines::new(seed, None)
         .take(COUNT)
         .map(|mut line| {
             assert_eq!(line.pop(), Some(b'\n'));
@@ -83,7 +83,7 @@ fn every_sort_of_line() {
             }
         }
     }
-    assert_eq!(kinds.len(), 8);
+    assert_eq!(kinds.len(), 10);
     assert!((COUNT / 40..COUNT / 25).contains(&bad), "{bad} bad lines");
     assert!((COUNT / 400..COUNT / 250).contains(&boots), "{boots} boots");
     assert!(shows > boots + COUNT / 150, "{shows} shows");

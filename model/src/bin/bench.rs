@@ -1,10 +1,12 @@
-//! bench [runs]: the time of one check and of one call, kernel beside model, as medians in ns.
+//! bench [runs]: the time of one check, of one call, and of the boot state written as HEX and read
+//! back, kernel beside model, as medians in ns.
 
 mod shared;
 
 use model::drive::api::{Api, MODEL};
 use model::drive::command;
 use model::drive::prepared::{self, Prepared};
+use model::hex::WRITTEN;
 use model::State;
 use shared::kernel::{announce, KERNEL};
 use std::time::Instant;
@@ -43,16 +45,29 @@ fn main() {
             line(call.name, runs, &state.bytes, act, 0);
         }
     }
+    let state = prepared::boot();
+    println!("{} as text", state.name);
+    let mut text = vec![0; WRITTEN];
+    let write = |api: &Api, s: &mut State| (api.write_hex)(&s[..], &mut text);
+    line("write hex", runs, &state.bytes, write, 0);
+    let read = |api: &Api, s: &mut State| (api.read_hex)(&text, &mut s[..]);
+    line("read hex", runs, &state.bytes, read, 0);
 }
 
-fn line(what: &str, runs: usize, s: &State, act: impl Fn(&Api, &mut State) -> i32, answer: i32) {
+fn line(
+    what: &str,
+    runs: usize,
+    s: &State,
+    mut act: impl FnMut(&Api, &mut State) -> i32,
+    answer: i32,
+) {
     let kernel = median(runs, s, |s| act(&KERNEL, s), answer);
     let model = median(runs, s, |s| act(&MODEL, s), answer);
     let ratio = kernel as f64 / model.max(1) as f64;
     println!("  {what:<32}{kernel:>9}{model:>9}{ratio:>9.1}");
 }
 
-fn median(runs: usize, s: &State, act: impl Fn(&mut State) -> i32, answer: i32) -> u128 {
+fn median(runs: usize, s: &State, mut act: impl FnMut(&mut State) -> i32, answer: i32) -> u128 {
     let mut buffer = Box::new(*s);
     let mut times: Vec<u128> = (0..runs)
         .map(|_| {

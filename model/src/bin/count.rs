@@ -5,6 +5,7 @@ mod shared;
 
 use model::drive::api::{Api, MODEL};
 use model::drive::prepared::{self, Prepared};
+use model::hex::WRITTEN;
 use model::State;
 use shared::kernel::{announce, KERNEL};
 
@@ -24,16 +25,31 @@ fn main() {
             both(&title, call.name, &state.bytes, act, 0);
         }
     }
+    // Its own rows: of every state it is the same work.
+    let state = prepared::boot();
+    let title = format!("{} as text", state.name);
+    let mut text = vec![0; WRITTEN];
+    both(&title, "nothing", &state.bytes, |_, _| 0, 0);
+    let write = |api: &Api, s: &mut State| (api.write_hex)(&s[..], &mut text);
+    both(&title, "write hex", &state.bytes, write, 0);
+    let read = |api: &Api, s: &mut State| (api.read_hex)(&text, &mut s[..]);
+    both(&title, "read hex", &state.bytes, read, 0);
 }
 
-fn both(title: &str, what: &str, s: &State, act: impl Fn(&Api, &mut State) -> i32, answer: i32) {
+fn both(
+    title: &str,
+    what: &str,
+    s: &State,
+    mut act: impl FnMut(&Api, &mut State) -> i32,
+    answer: i32,
+) {
     let kernel = format!("{title}; {what}; kernel");
     once(&kernel, s, |s| act(&KERNEL, s), answer);
     let model = format!("{title}; {what}; model");
     once(&model, s, |s| act(&MODEL, s), answer);
 }
 
-fn once(name: &str, s: &State, act: impl Fn(&mut State) -> i32, answer: i32) {
+fn once(name: &str, s: &State, act: impl FnOnce(&mut State) -> i32, answer: i32) {
     let mut buffer = Box::new(*s);
     println!("{name}");
     let given = act(&mut buffer);

@@ -6,8 +6,8 @@ mod shared;
 
 use model::drive::command;
 use model::drive::damages::{self, Damage, Level};
-use model::drive::generator::{poke, Generator, Step};
 use model::drive::rng::Rng;
+use model::drive::sound;
 use model::{Fault, State, SIZE};
 use shared::kernel::{announce, KERNEL};
 use std::collections::BTreeMap;
@@ -27,7 +27,7 @@ fn main() {
     let mut sound = vec![];
     for i in 0..buffers {
         if i % REFRESH == 0 {
-            sound = sound_states(&mut rng);
+            sound = sound::states(&mut rng, SOUND);
         }
         let s = &sound[rng.below(sound.len())];
         let (name, level, buffer) = match rng.below(100) {
@@ -80,37 +80,6 @@ fn chance_bytes(rng: &mut Rng) -> Vec<u8> {
         _ => buffer.fill_with(|| rng.word() as u8),
     }
     buffer
-}
-
-/// The boot state, a ticked one, and states that generated calls reach.
-fn sound_states(rng: &mut Rng) -> Vec<Box<State>> {
-    let mut booted = Box::new([0; SIZE]);
-    model::boot(&mut booted[..]);
-    let mut ticked = booted.clone();
-    for _ in 0..rng.within(1, 20) {
-        model::tick(&mut ticked[..]);
-    }
-    let mut all = vec![booted, ticked];
-    while all.len() < SOUND {
-        let mut s = all[0].clone();
-        let mut generator = Generator::new(rng.long());
-        let mut left = rng.within(20, 400);
-        while left > 0 || !generator.at_rest() {
-            left = left.saturating_sub(1);
-            match generator.next(&s) {
-                Step::Call { caller, words } => {
-                    let [w0, w1, w2, w3] = words;
-                    model::call(&mut s[..], caller, w0, w1, w2, w3);
-                }
-                Step::Tick => {
-                    model::tick(&mut s[..]);
-                }
-                Step::Poke { at, word } => poke(&mut s, at, word),
-            }
-        }
-        all.push(s);
-    }
-    all
 }
 
 /// Yes and no by damage, by level and by clause.

@@ -3,6 +3,9 @@
 /// Success of a tick, and of every call but two.
 pub const DONE: &str = "done";
 
+pub const SAVED: &str = "done: the state's text is in the file";
+pub const LOADED: &str = "done: the state is the file's";
+
 /// What success means after a call with this first word; N[5:0] is the call number.
 pub fn success(w0: u32) -> &'static str {
     match w0 >> 16 & 0x3F {
@@ -35,5 +38,17 @@ pub fn in_words(answer: i32, success: &str) -> &str {
         -18 => "no such caller: it is not the slot of a live process",
         -19 => "no such state: the buffer is not 17472 bytes or not well formed",
         _ => success,
+    }
+}
+
+/// The words behind the answer of a `load`.
+pub fn of_load(answer: i32) -> &'static str {
+    match answer {
+        -19 => "no such state: the lines are right, but what they give is not well formed; save a state anew",
+        -30 => "no record stands here: a character, the line's end, the length or the type is wrong; make the file anew",
+        -31 => "the record's sum is wrong: the line was altered; fetch the file again",
+        -32 => "bytes outside 20000000..20004440 or given twice, or at the end record bytes that no line gave; place the state at 0x20000000",
+        -33 => "the file ends here without its end record, or goes on behind it; fetch the file again",
+        _ => LOADED,
     }
 }

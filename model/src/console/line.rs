@@ -18,6 +18,10 @@ pub enum Line {
         words: [u32; 4],
     },
     Show,
+    /// The name of the file that the state's text goes into.
+    Save(Vec<u8>),
+    /// The name of the file whose text gives the state.
+    Load(Vec<u8>),
 }
 
 /// What is wrong with a line; the words in it count from 1.
@@ -26,6 +30,8 @@ pub enum Wrong {
     TooLong,
     AfterBoot,
     AfterShow,
+    Save,
+    Load,
     Tick,
     Beginning,
     /// So many words where a call has five.
@@ -41,8 +47,19 @@ impl fmt::Display for Wrong {
             Wrong::TooLong => write!(f, "longer than {LONGEST} bytes"),
             Wrong::AfterBoot => write!(f, "boot takes nothing after it"),
             Wrong::AfterShow => write!(f, "show takes nothing after it"),
+            Wrong::Save => write!(
+                f,
+                "save takes one file name without blanks, as in: save state.hex"
+            ),
+            Wrong::Load => write!(
+                f,
+                "load takes one file name without blanks, as in: load state.hex"
+            ),
             Wrong::Tick => write!(f, "tick takes one number, as in: tick 8"),
-            Wrong::Beginning => write!(f, "begin with boot, tick, show or the caller's number"),
+            Wrong::Beginning => write!(
+                f,
+                "begin with boot, tick, show, save, load or the caller's number"
+            ),
             Wrong::Call(k) => write!(
                 f,
                 "a call is five numbers, CALLER W0 W1 W2 W3, and here are {k}"
@@ -73,6 +90,10 @@ pub fn read(line: &[u8]) -> Result<Line, Wrong> {
         [b"boot", ..] => Err(Wrong::AfterBoot),
         [b"show"] => Ok(Line::Show),
         [b"show", ..] => Err(Wrong::AfterShow),
+        [b"save", name] => Ok(Line::Save(name.to_vec())),
+        [b"save", ..] => Err(Wrong::Save),
+        [b"load", name] => Ok(Line::Load(name.to_vec())),
+        [b"load", ..] => Err(Wrong::Load),
         [b"tick", ticks] => Ok(Line::Tick(number(2, ticks)?)),
         [b"tick", ..] => Err(Wrong::Tick),
         // "begins with no digit"

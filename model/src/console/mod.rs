@@ -2,15 +2,20 @@
 //! It is made from that page alone, so that another console can be compared with it byte for byte.
 
 mod answer;
+pub mod files;
 mod line;
 mod number;
 mod show;
 
-pub use answer::{in_words, success, DONE};
+pub use answer::{in_words, of_load, success, DONE, LOADED, SAVED};
 pub use line::{read, Line, Wrong, LONGEST};
 pub use show::show;
 
+use crate::hex;
 use crate::layout::{State, SIZE};
+use crate::refusal::STATE;
+use files::Trouble;
+use std::fmt::Display;
 use std::io::{BufRead, Result, Write};
 
 pub struct Console {
@@ -37,7 +42,7 @@ impl Console {
     pub fn line(&mut self, bytes: &[u8]) -> String {
         self.lines += 1;
         match read(bytes) {
-            Err(wrong) => format!("? line {}: {wrong}\n", self.lines),
+            Err(wrong) => self.fault(wrong),
             Ok(Line::Nothing) => String::new(),
             Ok(Line::Boot) => {
                 crate::boot(&mut self.state[..]);
@@ -53,7 +58,34 @@ impl Console {
                 self.print(answer, success(w0))
             }
             Ok(Line::Show) => show(&self.state),
+            Ok(Line::Save(name)) => self.save(&name).unwrap_or_else(|why| self.fault(why)),
+            Ok(Line::Load(name)) => self.load(&name).unwrap_or_else(|why| self.fault(why)),
         }
+    }
+
+    /// "the state's text goes into FILE, made or overwritten".
+    fn save(&self, name: &[u8]) -> std::result::Result<String, Trouble> {
+        files::write(name, &hex::written(&self.state[..]))?;
+        Ok(self.print(0, SAVED))
+    }
+
+    /// "the state becomes the one that FILE's text gives; a refused file leaves it". A refusal that
+    /// a line gives names the line.
+    fn load(&mut self, name: &[u8]) -> std::result::Result<String, Trouble> {
+        let text = files::read(name)?;
+        let answer = hex::read(&text, &mut self.state[..]);
+        let meaning = of_load(answer);
+        let line = hex::lines_taken(&text) + 1;
+        Ok(match (answer, self.words) {
+            (0 | STATE, true) => format!("{answer} {meaning}\n"),
+            (0 | STATE, false) => format!("{answer}\n"),
+            (_, true) => format!("{answer} line {line}: {meaning}\n"),
+            (_, false) => format!("{answer} line {line}\n"),
+        })
+    }
+
+    fn fault(&self, what: impl Display) -> String {
+        format!("? line {}: {what}\n", self.lines)
     }
 
     /// The last tick's answer; 0 where there is none, since nothing was refused.

@@ -18,7 +18,7 @@ impl BadLines {
     }
 }
 
-const SORTS: [fn(&mut Rng) -> Vec<u8>; 20] = [
+const SORTS: [fn(&mut Rng) -> Vec<u8>; 22] = [
     one_byte_too_long,
     after_boot,
     after_show,
@@ -39,6 +39,8 @@ const SORTS: [fn(&mut Rng) -> Vec<u8>; 20] = [
     comment_too_long,
     carriage_returns,
     chance_bytes,
+    save_of_no_file,
+    load_of_no_file,
 ];
 
 /// A send to the boot endpoint by the boot process: if a console ran it, the count would tell.
@@ -88,6 +90,30 @@ fn after_show(rng: &mut Rng) -> Vec<u8> {
     line(rng, &words(&[b"show", after]))
 }
 
+fn save_of_no_file(rng: &mut Rng) -> Vec<u8> {
+    let words = no_file(rng, b"save");
+    line(rng, &words)
+}
+
+fn load_of_no_file(rng: &mut Rng) -> Vec<u8> {
+    let words = no_file(rng, b"load");
+    line(rng, &words)
+}
+
+/// No name after the word, or several: a name has no blanks.
+const NO_FILE: [&[&[u8]]; 6] = [
+    &[],
+    &[b"my", b"state.hex"],
+    &[b"sound-0.hex", b"#"],
+    &[b"sound-0.hex", b"sound-1.hex", b"sound-2.hex"],
+    &[b"\"my", b"state.hex\""],
+    &[b"a\\", b"b"],
+];
+
+fn no_file(rng: &mut Rng, word: &[u8]) -> Vec<Vec<u8>> {
+    words(&[&[word][..], rng.pick(&NO_FILE)].concat())
+}
+
 fn tick_alone(rng: &mut Rng) -> Vec<u8> {
     line(rng, &words(&[b"tick"]))
 }
@@ -116,6 +142,11 @@ fn other_beginning(rng: &mut Rng) -> Vec<u8> {
         b"boots",
         b"tick8",
         b"sho",
+        b"Save",
+        b"LOAD",
+        b"saved",
+        b"load#",
+        b"lo",
         b"call",
         b"-18",
         b"+18",

@@ -1,7 +1,9 @@
 //! Console lines without end: sessions of generated calls and ticks, with `show`, comments, blank
-//! lines and bad lines between them. The model runs along, since the generator looks at its state.
+//! lines and bad lines between them, and `save` and `load` where there are files for them. The model
+//! runs along, since the generator looks at its state.
 
 use super::bad_lines::BadLines;
+use super::files::Files;
 use super::generator::{Generator, Step};
 use super::rng::Rng;
 use super::seldom::{
@@ -9,6 +11,7 @@ use super::seldom::{
 };
 use super::spelling::{line, line_of, number};
 use crate::console::LONGEST;
+use crate::hex;
 use crate::layout::{State, SIZE};
 use std::collections::VecDeque;
 
@@ -22,19 +25,21 @@ pub struct Lines {
     /// Steps that the session still has.
     left: u32,
     bad: BadLines,
+    files: Option<Files>,
     /// Lines made and not yet given, without their newlines.
     queue: VecDeque<Vec<u8>>,
 }
 
 impl Lines {
-    /// The seed decides every byte.
-    pub fn new(seed: u64) -> Lines {
+    /// The seed decides every byte; without files no line names one.
+    pub fn new(seed: u64, files: Option<Files>) -> Lines {
         let mut lines = Lines {
             rng: Rng::new(seed),
             state: Box::new([0; SIZE]),
             generator: Generator::new(seed),
             left: 0,
             bad: BadLines::default(),
+            files,
             queue: VecDeque::new(),
         };
         lines.begin();
@@ -69,6 +74,7 @@ impl Lines {
             }
             4 | 5 => self.comment(),
             6 => self.line(&[]),
+            7 => self.file(),
             _ => self.step(),
         }
     }
@@ -120,6 +126,28 @@ impl Lines {
         }
     }
 
+    /// A save, or a load of whatever the file then holds.
+    fn file(&mut self) {
+        let files = match &mut self.files {
+            Some(files) => files,
+            None => return,
+        };
+        let (word, name) = match self.rng.chance(40) {
+            true => {
+                let name = files.a_name_to_save(&mut self.rng);
+                files.saved(&name, hex::written(&self.state[..]));
+                ("save", name)
+            }
+            false => {
+                let name = files.a_name_to_load(&mut self.rng);
+                let text = files.text(&name).unwrap_or_default();
+                hex::read(text, &mut self.state[..]);
+                ("load", name)
+            }
+        };
+        self.line(&[word.into(), name]);
+    }
+
     fn comment(&mut self) {
         let text = self.rng.pick(&[
             &b"#"[..],
@@ -153,7 +181,7 @@ impl Iterator for Lines {
 
     /// The next line with its newline.
     fn next(&mut self) -> Option<Vec<u8>> {
-        if self.queue.is_empty() {
+        while self.queue.is_empty() {
             self.plan();
         }
         let mut made = self.queue.pop_front()?;

@@ -15,6 +15,9 @@ extern "C" {
         w2: u32,
         w3: u32,
     ) -> i32;
+    fn kernel_read_hex(text: *const u8, text_length: usize, s: *mut u8, length: usize) -> i32;
+    fn kernel_write_hex(s: *const u8, length: usize, text: *mut u8, text_length: usize) -> i32;
+    fn kernel_hex_lines(text: *const u8, text_length: usize) -> usize;
 }
 
 pub const KERNEL: Api = Api {
@@ -28,6 +31,13 @@ pub const KERNEL: Api = Api {
     call: |s, caller, [w0, w1, w2, w3]| unsafe {
         kernel_call(s.as_mut_ptr(), s.len(), caller, w0, w1, w2, w3)
     },
+    read_hex: |text, s| unsafe {
+        kernel_read_hex(text.as_ptr(), text.len(), s.as_mut_ptr(), s.len())
+    },
+    write_hex: |s, text| unsafe {
+        kernel_write_hex(s.as_ptr(), s.len(), text.as_mut_ptr(), text.len())
+    },
+    hex_lines: |text| unsafe { kernel_hex_lines(text.as_ptr(), text.len()) },
 };
 
 /// Says which kernel is linked, so that no self-test is taken for a comparison.
