@@ -3,9 +3,12 @@
  * Link with libkernel.a, which `rt staticlib kernel` writes to target/staticlib/ (x86-64 Linux; of the C library
  * it needs memset and nothing else). The functions keep nothing between calls, allocate nothing and never wait. All state is the buffer
  * that you lend; two buffers are two kernels. No function asks you to check anything beforehand: every buffer, caller and word is
- * judged, and a refusal changes no byte. Calls on one buffer must not overlap in time.
+ * judged, and a refusal changes no byte. Calls on one buffer must not overlap in time, nor the buffers of one call in memory.
  *
- * A length counts elements, not bytes: of uint8_t for a state, of uint32_t for words.
+ * A length counts elements, not bytes: of uint8_t for a state and a text, of uint32_t for words.
+ *
+ * Stack, in bytes from the caller on, measured (examples/c/stack.c): kernel_read_hex 54,440, kernel_hex_lines 35,088, kernel_run 2,376,
+ * kernel_call 2,304, kernel_write_hex 2,056, kernel_tick 1,992, kernel_check 1,976, kernel_boot 40; the others a few words.
  */
 #ifndef THEPHAROK_H
 #define THEPHAROK_H
@@ -20,6 +23,9 @@ extern "C" {
 
 /* A state: 16,384 bytes of kernel memory, 1,024 of slot bookkeeping, 64 for the clock and spare. docs/LAYOUT.md has every byte. */
 #define THEPHAROK_STATE_LENGTH 17472
+
+/* A state's text: Intel HEX as kernel_write_hex writes it. */
+#define THEPHAROK_TEXT_LENGTH 48076
 
 /* The process that a boot makes, by its slot: the first caller. */
 #define THEPHAROK_BOOT_PROCESS 18
@@ -47,7 +53,12 @@ enum {
     THEPHAROK_SIV_CONFLICT = -16, /* the boot endpoint cannot be deleted */
     THEPHAROK_NO_CALL = -17,      /* the call number is not 1 to 20 */
     THEPHAROK_NO_CALLER = -18,    /* the caller is not the slot of a live process */
-    THEPHAROK_NO_STATE = -19,     /* the buffer is not 17472 bytes or not well formed */
+    THEPHAROK_NO_STATE = -19,     /* the buffer is not 17472 bytes or not well formed, or what a text gives is not */
+    THEPHAROK_HEX_LINE = -30,     /* no record stands in the line: a character, the line's end, the length or the type is wrong */
+    THEPHAROK_HEX_SUM = -31,      /* the record's sum is wrong: the line was altered */
+    THEPHAROK_HEX_ADDRESS = -32,  /* bytes outside 20000000..20004440 or given twice, or at the end record bytes that no line gave */
+    THEPHAROK_HEX_END = -33,      /* the text ends without its end record, or goes on behind it */
+    THEPHAROK_HEX_ROOM = -34,     /* kernel_write_hex: fewer than 48076 bytes are lent for the text */
     THEPHAROK_CUT_SCRIPT = -60,   /* kernel_run: the script ends inside an event */
     THEPHAROK_FEW_LENT = -61      /* kernel_run, kernel_pack, kernel_unpack: too few answers or words are lent */
 };
@@ -76,6 +87,27 @@ int32_t kernel_pack(uint32_t lower, uint32_t upper, uint32_t flags, uint32_t *wo
 /* What such words grant, into words[0] (lower), words[1] (upper, excluded) and words[2] (flags): 0, or -61 where fewer than three words
  * are lent. Unpacking takes every pair of words. */
 int32_t kernel_unpack(uint32_t nc, uint32_t p3, uint32_t *words, size_t words_length);
+
+/* Writes the state as the firmware loader takes it, the same text whenever the state is the same: an address record for 0x2000, 1,092
+ * data records of 16 bytes from 0x20000000 on, the end record; upper-case digits, a line feed behind each. It fills the first 48,076
+ * bytes of `text`; those behind them stay. 0, or -19 where the state is of another length or not well formed, then -34. */
+int32_t kernel_write_hex(const uint8_t *state, size_t length, uint8_t *text, size_t text_length);
+
+/* Reads a state from such a text, and from every other that gives each of the 17,472 bytes once: letters of either case, line ends LF or
+ * CR LF, data records of 1 to 255 bytes in any order, address records anywhere before the end record. 0, and then the buffer is that
+ * state, whatever it held; or
+ *   -19         first, where the buffer is of another length;
+ *   -30 to -33  the fault of the first faulty line: in a line -30 before -31 before -32; a gap is -32 at the end record; -33 where the
+ *               lines are used up without an end record, or anything at all stands behind it;
+ *   -19         last, where the bytes that the lines give are no well-formed state.
+ * Record types other than 00, 01 and 04 are refused, a start record (03, 05) too, and so is a last line without its line feed.
+ * It keeps three bytes on the stack for each byte of a state, 52,416: the buffer is not written before the whole text is found right. */
+int32_t kernel_read_hex(const uint8_t *text, size_t text_length, uint8_t *state, size_t length);
+
+/* How many lines of the text are taken before the first faulty one: where kernel_read_hex answers -30 to -33, the line at fault is this
+ * number + 1, counted from 1 (one more than there are, where the end record is lacking). A text without fault: all its lines.
+ * It keeps two bytes on the stack for each byte of a state, 34,944. */
+size_t kernel_hex_lines(const uint8_t *text, size_t text_length);
 
 #ifdef __cplusplus
 }
