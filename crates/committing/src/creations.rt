@@ -23,7 +23,7 @@ use writing::slots::fill_slots;
 use writing::tables::store_place;
 
 // What a new object begins with: how many slots it takes, its note, and three words; zeros follow them.
-#[derive(Drop)]
+#[derive(Clone, Copy)]
 struct Beginning {
     slots: u32,
     tag: u8,

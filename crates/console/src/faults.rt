@@ -3,7 +3,7 @@ use lines::requests::Fault;
 use rows::say_row;
 
 // A row of the reasons, and the number that it names behind the line's.
-#[derive(Drop)]
+#[derive(Clone, Copy)]
 struct Reason {
     row: u32,
     number: u64,

@@ -13,7 +13,7 @@ pub(crate) fn write_file(name: &[u8], text: &[u8]) -> bool {
 }
 
 // What a file that was to be read gave: how many bytes, or why none.
-#[derive(Drop)]
+#[derive(Clone, Copy)]
 pub(crate) enum Input {
     Bytes(usize),
     Unread,

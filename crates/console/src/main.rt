@@ -20,7 +20,7 @@ const CHUNK_LENGTH: usize = 4096;
 
 // How far the input has been read: the bytes of the line that is not yet ended (1,025 stands for any more than 1,024) and the
 // lines before it.
-#[derive(Drop)]
+#[derive(Clone, Copy)]
 struct Progress {
     length: usize,
     lines: u64,
@@ -71,7 +71,7 @@ fn take_bytes(
 }
 
 // What came of one read: how far it got, and whether the input goes on.
-#[derive(Drop)]
+#[derive(Clone, Copy)]
 struct Turn {
     progress: Progress,
     goes_on: bool,
@@ -121,7 +121,7 @@ fn run(s: &mut [u8; STATE_LENGTH], line: &mut [u8; LINE_LENGTH], in_words: bool)
     }
 }
 
-#[derive(Drop)]
+#[derive(Clone, Copy)]
 enum Argument {
     Absent,
     Words,

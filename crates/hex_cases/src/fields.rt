@@ -6,7 +6,7 @@ use lines::spans::word_after;
 const NO_NUMBER: u32 = 0xFFFFFFFF;
 
 // A number, and where the next one is looked for.
-#[derive(Drop)]
+#[derive(Clone, Copy)]
 pub struct Field {
     pub value: u32,
     pub next: usize,

@@ -17,7 +17,7 @@ fn say(text: &[u8]) {
 const HELD: u8 = 0xA5;
 
 // The answer, how many lines were taken, and whether the destination holds what belongs there.
-#[derive(Drop)]
+#[derive(Clone, Copy)]
 pub struct Outcome {
     pub answer: i32,
     pub taken: usize,

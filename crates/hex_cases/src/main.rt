@@ -27,7 +27,7 @@ const CHUNK_LENGTH: usize = 4096;
 
 // How far the record has been read: the bytes of the line that is not yet ended, the lines before it, and whether a case has come out
 // otherwise.
-#[derive(Drop)]
+#[derive(Clone, Copy)]
 struct Progress {
     length: usize,
     lines: u64,
@@ -117,7 +117,7 @@ fn take_bytes(
 }
 
 // What came of one read: how far it got, and whether the record goes on.
-#[derive(Drop)]
+#[derive(Clone, Copy)]
 struct Turn {
     progress: Progress,
     goes_on: bool,

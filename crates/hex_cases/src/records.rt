@@ -8,7 +8,7 @@ use lines::spans::word_after;
 
 // The answer and how many lines are taken; the bytes from index `from` to before index `to` give way to those that the word at or
 // after byte `bytes` of the line spells.
-#[derive(Drop)]
+#[derive(Clone, Copy)]
 pub struct Case {
     pub answer: i32,
     pub taken: usize,
@@ -17,7 +17,7 @@ pub struct Case {
     pub bytes: usize,
 }
 
-#[derive(Drop)]
+#[derive(Clone, Copy)]
 pub enum Record {
     Nothing,
     Judged(Case),

@@ -15,7 +15,7 @@ use intel_hex::marks::{DATA_TYPE, STATE_UPPER, UPPER_TYPE};
 use words::sizes::STATE_LENGTH;
 
 // A line that goes on with the upper half of the address, the end record, or a fault.
-#[derive(Drop)]
+#[derive(Clone, Copy)]
 pub(crate) enum Taken {
     On(u32),
     Over,
@@ -23,7 +23,7 @@ pub(crate) enum Taken {
 }
 
 // A text: the cells hold what it gives, or it has a fault; and how many of its lines were taken.
-#[derive(Drop)]
+#[derive(Clone, Copy)]
 pub(crate) enum Reading {
     Whole(usize),
     Not(Fault, usize),

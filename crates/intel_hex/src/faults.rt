@@ -1,5 +1,5 @@
 // What the first faulty line of a text has against it.
-#[derive(Drop)]
+#[derive(Clone, Copy)]
 pub enum Fault {
     // −30: a character, the line's end, a length or a type
     Line,

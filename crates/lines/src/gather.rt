@@ -8,7 +8,7 @@ pub const LINE_LENGTH: usize = 1024;
 const LONGER: usize = LINE_LENGTH + 1;
 
 // How many bytes the line has so far, 1,025 standing for any more than 1,024, and whether it is ended.
-#[derive(Drop)]
+#[derive(Clone, Copy)]
 pub struct Gathered {
     pub length: usize,
     pub ended: bool,

@@ -5,7 +5,7 @@ ghost use Rattle.lines.specs.Numbers.{number_in, number_of};
 use crate::bytes::byte_at;
 use digits::digit;
 
-#[derive(Drop)]
+#[derive(Clone, Copy)]
 pub enum Number {
     Value(u32),
     NotANumber,

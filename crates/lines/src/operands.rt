@@ -7,7 +7,7 @@ use crate::numbers::{Number, number_in};
 use crate::requests::Fault;
 use crate::split::word;
 
-#[derive(Drop)]
+#[derive(Clone, Copy)]
 pub enum Operand {
     Is(u32),
     Faulty(Fault),

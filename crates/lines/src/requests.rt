@@ -8,7 +8,7 @@ use crate::forms::{call_in, command, file_command, tick_in};
 use crate::split::{word, word_count};
 
 // What is wrong in a line. Words are numbered from 1; Count has how many there are.
-#[derive(Drop)]
+#[derive(Clone, Copy)]
 pub enum Fault {
     AfterBoot,
     AfterShow,
@@ -22,7 +22,7 @@ pub enum Fault {
 }
 
 // The caller's slot and the words N:C, P1, P2, P3.
-#[derive(Drop)]
+#[derive(Clone, Copy)]
 pub struct Call {
     pub caller: u32,
     pub w0: u32,
@@ -31,7 +31,7 @@ pub struct Call {
     pub w3: u32,
 }
 
-#[derive(Drop)]
+#[derive(Clone, Copy)]
 pub enum Request {
     Nothing,
     Boot,

@@ -3,7 +3,7 @@ use lines::numbers::{Number, number_in};
 use lines::spans::word_after;
 
 // A number with its sign, and where the next one is looked for; 0 where none could be read, which no recorded line has.
-#[derive(Drop)]
+#[derive(Clone, Copy)]
 pub struct Field {
     pub negative: bool,
     pub value: u32,

@@ -1,7 +1,7 @@
 // What a recorded line says was done, and what came of it.
 use crate::fields::{Field, field_at};
 
-#[derive(Drop)]
+#[derive(Clone, Copy)]
 pub struct Call {
     pub caller: u32,
     pub w0: u32,
@@ -10,7 +10,7 @@ pub struct Call {
     pub w3: u32,
 }
 
-#[derive(Drop)]
+#[derive(Clone, Copy)]
 pub enum Record {
     Nothing,
     Boot(Field),

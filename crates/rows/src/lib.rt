@@ -20,7 +20,7 @@ pub const NO_NUMBERS: [u64; 4] = [0, 0, 0, 0];
 
 // How far the rows have been gone through: the rows that ended, how many numbers stand in their places, and how much waits to be
 // written.
-#[derive(Drop)]
+#[derive(Clone, Copy)]
 struct Course {
     rows: u32,
     numbers: u32,

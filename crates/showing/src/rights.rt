@@ -6,7 +6,7 @@ use words::numbers::Slot;
 use words::sizes::{PLACE_COUNT_U32, STATE_LENGTH};
 
 // A row of the kinds, and the numbers of its places.
-#[derive(Drop)]
+#[derive(Clone, Copy)]
 struct Naming {
     row: u32,
     numbers: [u64; 4],

@@ -3,13 +3,13 @@ use crate::capabilities::{Capability, Geometry, Position};
 use crate::numbers::{Count, Slot};
 
 // A place: an entry of the table whose first slot is `table`.
-#[derive(Drop)]
+#[derive(Clone, Copy)]
 pub struct Spot {
     pub table: Slot,
     pub entry: u32,
 }
 
-#[derive(Drop)]
+#[derive(Clone, Copy)]
 pub enum Action {
     CreateTable {
         at: Spot,

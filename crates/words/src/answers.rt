@@ -8,7 +8,7 @@ use crate::capabilities::{Capability, Frame, FunctionRange, Span, Stretch};
 use crate::numbers::Slot;
 use crate::refusals::Refusal;
 
-#[derive(Drop)]
+#[derive(Clone, Copy)]
 pub enum RightAnswer {
     Found(Capability),
     Refused(Refusal),
@@ -23,7 +23,7 @@ pub fn why_right(a: RightAnswer) -> Refusal
     }
 }
 
-#[derive(Drop)]
+#[derive(Clone, Copy)]
 pub enum SlotAnswer {
     Found(Slot),
     Refused(Refusal),
@@ -38,7 +38,7 @@ pub fn why_slot(a: SlotAnswer) -> Refusal
     }
 }
 
-#[derive(Drop)]
+#[derive(Clone, Copy)]
 pub enum SpanAnswer {
     Found(Span),
     Refused(Refusal),
@@ -53,7 +53,7 @@ pub fn why_span(a: SpanAnswer) -> Refusal
     }
 }
 
-#[derive(Drop)]
+#[derive(Clone, Copy)]
 pub enum StretchAnswer {
     Found(Stretch),
     Refused(Refusal),
@@ -68,7 +68,7 @@ pub fn why_stretch(a: StretchAnswer) -> Refusal
     }
 }
 
-#[derive(Drop)]
+#[derive(Clone, Copy)]
 pub enum RangeAnswer {
     Found(FunctionRange),
     Refused(Refusal),
@@ -83,7 +83,7 @@ pub fn why_range(a: RangeAnswer) -> Refusal
     }
 }
 
-#[derive(Drop)]
+#[derive(Clone, Copy)]
 pub enum SpotAnswer {
     Found(Spot),
     Refused(Refusal),
@@ -98,7 +98,7 @@ pub fn why_spot(a: SpotAnswer) -> Refusal
     }
 }
 
-#[derive(Drop)]
+#[derive(Clone, Copy)]
 pub enum FrameAnswer {
     Found(Frame),
     Refused(Refusal),
@@ -114,14 +114,14 @@ pub fn why_frame(a: FrameAnswer) -> Refusal
 }
 
 // What a test of several steps answers.
-#[derive(Drop)]
+#[derive(Clone, Copy)]
 pub enum Verdict {
     Passed,
     Refused(Refusal),
 }
 
 // What a call comes to: an action, or a refusal.
-#[derive(Drop)]
+#[derive(Clone, Copy)]
 pub enum Plan {
     Do(Action),
     Refused(Refusal),

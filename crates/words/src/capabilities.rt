@@ -6,7 +6,7 @@ ghost use Rattle.words.specs.Rights.{is_thawed, is_root, is_blank, place_thawed}
 use crate::numbers::{KernelAddress, Slot};
 
 // A kind, with its range or object as data. A directory's and a function's high end is included, a memory's is not.
-#[derive(Drop)]
+#[derive(Clone, Copy)]
 pub enum Kind {
     Table(Slot),
     Directory {
@@ -27,20 +27,20 @@ pub enum Kind {
 }
 
 // The frozen mark, with its stamp.
-#[derive(Drop)]
+#[derive(Clone, Copy)]
 pub enum Frost {
     Thawed,
     Frozen(u32),
 }
 
 // A root, or the parent's place by its number: 2 * first slot of the table + entry.
-#[derive(Drop)]
+#[derive(Clone, Copy)]
 pub enum Origin {
     Root,
     Under(u32),
 }
 
-#[derive(Drop)]
+#[derive(Clone, Copy)]
 pub struct Capability {
     pub kind: Kind,
     pub flags: u32,
@@ -49,14 +49,14 @@ pub struct Capability {
 }
 
 // An entry of a table.
-#[derive(Drop)]
+#[derive(Clone, Copy)]
 pub enum Place {
     Blank,
     Holds(Capability),
 }
 
 // An entry of a directory.
-#[derive(Drop)]
+#[derive(Clone, Copy)]
 pub enum Position {
     Empty,
     Page { frame: u32, flags: u32 },
@@ -64,7 +64,7 @@ pub enum Position {
 }
 
 // The shape of a directory: orders of its page size and of its number of positions, the top mark, the start address.
-#[derive(Drop)]
+#[derive(Clone, Copy)]
 pub struct Geometry {
     pub size: u32,
     pub number: u32,
@@ -74,27 +74,27 @@ pub struct Geometry {
 
 // What a right gives to the stage that uses it: a directory and the positions that the right ranges over; the addresses of a
 // memory right, from low to below high; the numbers of a function right.
-#[derive(Drop)]
+#[derive(Clone, Copy)]
 pub struct Span {
     pub object: Slot,
     pub low: u32,
     pub high: u32,
 }
 
-#[derive(Drop)]
+#[derive(Clone, Copy)]
 pub struct Stretch {
     pub low: KernelAddress,
     pub high: KernelAddress,
 }
 
-#[derive(Drop)]
+#[derive(Clone, Copy)]
 pub struct FunctionRange {
     pub low: u32,
     pub high: u32,
 }
 
 // What a position that holds a page gives.
-#[derive(Drop)]
+#[derive(Clone, Copy)]
 pub struct Frame {
     pub frame: u32,
     pub flags: u32,

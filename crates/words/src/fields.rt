@@ -16,7 +16,7 @@ pub const THREE_BYTES: u32 = HALF * BYTE;
 pub const CALL_NUMBERS: u32 = 64;
 
 // The words of a call; nc is N:C.
-#[derive(Drop)]
+#[derive(Clone, Copy)]
 pub struct Words {
     pub nc: u32,
     pub p1: u32,

@@ -13,7 +13,7 @@ const GRANT_UNIT: u32 = 64;
 
 const FLAG_SETS: u32 = MEMORY_FLAGS + 1;
 
-#[derive(Drop)]
+#[derive(Clone, Copy)]
 pub struct Grant {
     pub lower: KernelAddress,
     pub upper: KernelAddress,
@@ -21,13 +21,13 @@ pub struct Grant {
 }
 
 // The two words that carry a grant: N:C and P3 of a delegation.
-#[derive(Drop)]
+#[derive(Clone, Copy)]
 pub struct Packed {
     pub nc: u32,
     pub p3: u32,
 }
 
-#[derive(Drop)]
+#[derive(Clone, Copy)]
 pub enum Packing {
     Words(Packed),
     Refused(Refusal),
