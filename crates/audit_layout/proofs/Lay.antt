@@ -40,7 +40,8 @@ module _ (st : State) (h k : ℕ) (in_it : k < length st.slots) where
   lay_new zero e z = absurd (z refl)
   lay_new (suc m) e z =
       let q : m ≡ suc m - 1 = omega arith in
-      ap (lay k 0 (slot h)) next ∙ rw (add-one k, ← q, e, lay)
+      let step : lay_from st 0 h k ≡ lay_from st (suc m - 1) k (suc k) = ap (lay k 0 (slot h)) next ∙ rw (← q, e, lay) in
+      step ∙ ap (λ (j : ℕ). lay_from st (suc m - 1) k j) (sym (add-one k))
 
   -- the object before goes on here, or not
   pub lay_more : (c : ℕ) → (c ≡ 0 → ⊥) → goes_on (slot h) (obj_at st (slot k)) ≡ true → lay_from st c h k ≡ lay_from st (c - 1) h (k + 1)
@@ -48,7 +49,8 @@ module _ (st : State) (h k : ℕ) (in_it : k < length st.slots) where
   lay_more zero z e = absurd (z refl)
   lay_more (suc c) z e =
       let q : c ≡ suc c - 1 = omega arith in
-      ap (lay k (suc c) (slot h)) next ∙ rw (add-one k, ← q, e, lay)
+      let step : lay_from st (suc c) h k ≡ lay_from st (suc c - 1) h (suc k) = ap (lay k (suc c) (slot h)) next ∙ rw (← q, e, lay) in
+      step ∙ ap (λ (j : ℕ). lay_from st (suc c - 1) h j) (sym (add-one k))
 
   pub lay_stops : (c : ℕ) → (c ≡ 0 → ⊥) → goes_on (slot h) (obj_at st (slot k)) ≡ false → lay_from st c h k ≡ false
   unfolding lay_from lay
