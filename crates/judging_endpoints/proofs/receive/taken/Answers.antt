@@ -1,0 +1,8 @@
+-- `judging_endpoints::receive::taken` meets its contract: by what its readers promise.
+use borrow.Author.Rules.{rules}
+use Rattle.judging_endpoints.specs.Taken.{taken}
+use Rattle.judging_endpoints.proofs.receive.taken.Goals as goal
+
+pub returns : goal.returns
+unfolding taken
+returns c = rw (c.least-m.ensures, c.most.ensures, c.count_at-n.ensures)
