@@ -17,7 +17,7 @@ use crate::places::{commit_fill, commit_freeze, commit_remove};
 use words::actions::Action;
 
 pub fn carry_out(s: &mut [u8], a: Action)
-    requires s_value { sound s.old ≡ true }
+    requires well_formed { sound s.old ≡ true }
     requires ready { Ready (read s.old) a }
     ensures { s.new ≡ bytes (commit (read s.old) a) }
 {

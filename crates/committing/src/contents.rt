@@ -14,7 +14,7 @@ use writing::endpoints::store_count;
 use writing::processes::{store_directory_named, store_table_named};
 
 pub(crate) fn commit_set_position(s: &mut [u8], directory: Slot, position: u32, to: Position)
-    requires s_value { sound s.old ≡ true }
+    requires well_formed { sound s.old ≡ true }
     requires ready { Ready (read s.old) (SetPosition directory position to) }
     ensures { s.new ≡ bytes (commit (read s.old) (SetPosition directory position to)) }
 {
@@ -22,7 +22,7 @@ pub(crate) fn commit_set_position(s: &mut [u8], directory: Slot, position: u32, 
 }
 
 pub(crate) fn commit_change_table(s: &mut [u8], process: Slot, table: Slot)
-    requires s_value { sound s.old ≡ true }
+    requires well_formed { sound s.old ≡ true }
     requires ready { Ready (read s.old) (ChangeTable process table) }
     ensures { s.new ≡ bytes (commit (read s.old) (ChangeTable process table)) }
 {
@@ -30,7 +30,7 @@ pub(crate) fn commit_change_table(s: &mut [u8], process: Slot, table: Slot)
 }
 
 pub(crate) fn commit_change_directory(s: &mut [u8], process: Slot, directory: Slot)
-    requires s_value { sound s.old ≡ true }
+    requires well_formed { sound s.old ≡ true }
     requires ready { Ready (read s.old) (ChangeDirectory process directory) }
     ensures { s.new ≡ bytes (commit (read s.old) (ChangeDirectory process directory)) }
 {
@@ -39,7 +39,7 @@ pub(crate) fn commit_change_directory(s: &mut [u8], process: Slot, directory: Sl
 
 // What a receipt takes is its answer, and leaves no trace in the state.
 pub(crate) fn commit_set_count(s: &mut [u8], endpoint: Slot, count: Count, taken: Count)
-    requires s_value { sound s.old ≡ true }
+    requires well_formed { sound s.old ≡ true }
     requires ready { Ready (read s.old) (SetCount endpoint count taken) }
     ensures { s.new ≡ bytes (commit (read s.old) (SetCount endpoint count taken)) }
 {

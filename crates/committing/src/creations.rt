@@ -46,10 +46,10 @@ fn root_right(k: Kind) -> Capability
 
 // The object in its slots from `first` on, and its root.
 fn raise(s: &mut [u8], at: Spot, first: Slot, kind: Kind, new: Beginning)
-    requires slots_in_bounds { memory_length + 4 * first.0 + 4 * new.slots ≤ length s.old }
-    requires slots_in_bounds_2 { slot_size * first.0 + slot_size * new.slots ≤ length s.old }
-    requires le_slots { 1 ≤ new.slots }
-    requires entry_size_in_bounds { slot_size * at.table.0 + entry_size * at.entry + entry_size ≤ length s.old }
+    requires notes_inside { memory_length + 4 * first.0 + 4 * new.slots ≤ length s.old }
+    requires slots_inside { slot_size * first.0 + slot_size * new.slots ≤ length s.old }
+    requires some_slots { 1 ≤ new.slots }
+    requires entry_inside { slot_size * at.table.0 + entry_size * at.entry + entry_size ≤ length s.old }
     ensures { s.new ≡ raised s.old at first kind new }
 {
     store_notes(s, first, new.slots, new.tag, new.argument);
@@ -60,7 +60,7 @@ fn raise(s: &mut [u8], at: Spot, first: Slot, kind: Kind, new: Beginning)
 
 // "entries·32 bytes, rounded up to slots"; every entry is blank.
 pub(crate) fn commit_create_table(s: &mut [u8], at: Spot, first: Slot, entries: u32)
-    requires s_value { sound s.old ≡ true }
+    requires well_formed { sound s.old ≡ true }
     requires ready { Ready (read s.old) (CreateTable at first entries) }
     ensures { s.new ≡ bytes (commit (read s.old) (CreateTable at first entries)) }
 {
@@ -95,7 +95,7 @@ fn positions_for(k: u32) -> u32
 
 // "(32 + 8·2^k) bytes, rounded up"; "a directory's root ranges over exactly its positions".
 pub(crate) fn commit_create_directory(s: &mut [u8], at: Spot, first: Slot, shape: Geometry)
-    requires s_value { sound s.old ≡ true }
+    requires well_formed { sound s.old ≡ true }
     requires ready { Ready (read s.old) (CreateDirectory at first shape) }
     ensures { s.new ≡ bytes (commit (read s.old) (CreateDirectory at first shape)) }
 {
@@ -123,7 +123,7 @@ pub(crate) fn commit_create_process(
     table: Slot,
     directory: Slot,
 )
-    requires s_value { sound s.old ≡ true }
+    requires well_formed { sound s.old ≡ true }
     requires ready { Ready (read s.old) (CreateProcess at first table directory) }
     ensures { s.new ≡ bytes (commit (read s.old) (CreateProcess at first table directory)) }
 {
@@ -140,7 +140,7 @@ pub(crate) fn commit_create_process(
 
 // No signal waits, and the boot mark is 0: "a mark that no call sets".
 pub(crate) fn commit_create_endpoint(s: &mut [u8], at: Spot, first: Slot)
-    requires s_value { sound s.old ≡ true }
+    requires well_formed { sound s.old ≡ true }
     requires ready { Ready (read s.old) (CreateEndpoint at first) }
     ensures { s.new ≡ bytes (commit (read s.old) (CreateEndpoint at first)) }
 {

@@ -36,7 +36,7 @@ fn size_at(s: &[u8], o: Slot) -> u32
 }
 
 pub(crate) fn commit_delete(s: &mut [u8], at: Spot, object: Slot)
-    requires s_value { sound s.old ≡ true }
+    requires well_formed { sound s.old ≡ true }
     requires ready { Ready (read s.old) (Delete at object) }
     ensures { s.new ≡ bytes (commit (read s.old) (Delete at object)) }
 {

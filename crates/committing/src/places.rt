@@ -14,7 +14,7 @@ use words::capabilities::{Capability, Frost, Place};
 use writing::tables::store_place;
 
 pub(crate) fn commit_fill(s: &mut [u8], at: Spot, right: Capability)
-    requires s_value { sound s.old ≡ true }
+    requires well_formed { sound s.old ≡ true }
     requires ready { Ready (read s.old) (Fill at right) }
     ensures { s.new ≡ bytes (commit (read s.old) (Fill at right)) }
 {
@@ -43,7 +43,7 @@ fn frozen(p: Place, stamp: u32) -> Place
 
 // The stamp is the clock.
 pub(crate) fn commit_freeze(s: &mut [u8], at: Spot)
-    requires s_value { sound s.old ≡ true }
+    requires well_formed { sound s.old ≡ true }
     requires ready { Ready (read s.old) (Freeze at) }
     ensures { s.new ≡ bytes (commit (read s.old) (Freeze at)) }
 {
@@ -53,7 +53,7 @@ pub(crate) fn commit_freeze(s: &mut [u8], at: Spot)
 }
 
 pub(crate) fn commit_remove(s: &mut [u8], at: Spot)
-    requires s_value { sound s.old ≡ true }
+    requires well_formed { sound s.old ≡ true }
     requires ready { Ready (read s.old) (Remove at) }
     ensures { s.new ≡ bytes (commit (read s.old) (Remove at)) }
 {

@@ -31,8 +31,8 @@ pub(crate) enum Reading {
 
 fn take_data(body: &[u8], upper: u32, cells: &mut [u16; STATE_LENGTH]) -> Taken
     requires { (spells body.now ≡ true) × (whole (spelled_by body.now) ≡ true) × (length cells.old ≡ state_length) }
-    ensures cells_value { told result cells.exit.now ≡ data_step (record { cells = cells.entry.now; upper = upper }) (half * upper + address_in (spelled_by body.now)) (data_in (spelled_by body.now)) }
-    ensures cells_len { length cells.new ≡ state_length }
+    ensures value { told result cells.exit.now ≡ data_step (record { cells = cells.entry.now; upper = upper }) (half * upper + address_in (spelled_by body.now)) (data_in (spelled_by body.now)) }
+    ensures same_length { length cells.new ≡ state_length }
 {
     if upper != STATE_UPPER {
         return Taken::Faulty(Fault::Address);
@@ -61,8 +61,8 @@ fn take_end(cells: &[u16; STATE_LENGTH]) -> Taken
 
 fn take_record(body: &[u8], upper: u32, cells: &mut [u16; STATE_LENGTH]) -> Taken
     requires { (spells body.now ≡ true) × (whole (spelled_by body.now) ≡ true) × (length cells.old ≡ state_length) }
-    ensures cells_value { told result cells.exit.now ≡ record_step (record { cells = cells.entry.now; upper = upper }) (spelled_by body.now) }
-    ensures cells_len { length cells.new ≡ state_length }
+    ensures value { told result cells.exit.now ≡ record_step (record { cells = cells.entry.now; upper = upper }) (spelled_by body.now) }
+    ensures same_length { length cells.new ≡ state_length }
 {
     match type_in(body) {
         DATA_TYPE => take_data(body, upper, cells),
@@ -73,8 +73,8 @@ fn take_record(body: &[u8], upper: u32, cells: &mut [u16; STATE_LENGTH]) -> Take
 
 pub(crate) fn take_line(line: &[u8], upper: u32, cells: &mut [u16; STATE_LENGTH]) -> Taken
     requires { length cells.old ≡ state_length }
-    ensures cells_value { told result cells.exit.now ≡ line_step (record { cells = cells.entry.now; upper = upper }) line.now }
-    ensures cells_len { length cells.new ≡ state_length }
+    ensures value { told result cells.exit.now ≡ line_step (record { cells = cells.entry.now; upper = upper }) line.now }
+    ensures same_length { length cells.new ≡ state_length }
 {
     if !ended(line) {
         return Taken::Faulty(Fault::Line);
@@ -94,8 +94,8 @@ pub(crate) fn take_line(line: &[u8], upper: u32, cells: &mut [u16; STATE_LENGTH]
 
 // Behind the end record nothing may stand.
 fn nothing_more(text: &[u8], at: usize, taken: usize) -> Reading
-    ensures by_index { (c : List ℕ) → told_text result c ≡ nothing_more (given c) (lines_of (drop at text.now)) }
-    ensures result_value { lines_in result ≡ taken }
+    ensures value { (c : List ℕ) → told_text result c ≡ nothing_more (given c) (lines_of (drop at text.now)) }
+    ensures lines { lines_in result ≡ taken }
 {
     if at < text.len() {
         return Reading::Not(Fault::End, taken);
@@ -105,9 +105,9 @@ fn nothing_more(text: &[u8], at: usize, taken: usize) -> Reading
 
 pub(crate) fn read_text(text: &[u8], cells: &mut [u16; STATE_LENGTH]) -> Reading
     requires { length cells.old ≡ state_length }
-    ensures cells_value { told_text result cells.exit.now ≡ read_lines (record { cells = cells.entry.now; upper = 0 }) (lines_of text.now) }
-    ensures result_value { lines_in result ≡ lines_taken (record { cells = cells.entry.now; upper = 0 }) (lines_of text.now) }
-    ensures cells_len { length cells.new ≡ state_length }
+    ensures value { told_text result cells.exit.now ≡ read_lines (record { cells = cells.entry.now; upper = 0 }) (lines_of text.now) }
+    ensures lines { lines_in result ≡ lines_taken (record { cells = cells.entry.now; upper = 0 }) (lines_of text.now) }
+    ensures same_length { length cells.new ≡ state_length }
 {
     let mut upper: u32 = 0;
     let mut at: usize = 0;

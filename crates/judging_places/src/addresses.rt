@@ -31,8 +31,8 @@ fn lies_in(m: Stretch, a: KernelAddress, n: u32) -> bool
 
 // What a memory right of a well-formed state shows: it lies in kernel memory, so that an address in it has a slot.
 pub fn address_arg(s: &[u8], m: Stretch, a: KernelAddress, n: u32) -> SlotAnswer
-    requires kernel_start_le_low { (kernel_start ≤ m.low.0) × (m.high.0 ≤ kernel_end) }
-    requires le_n { (1 ≤ n) × (n ≤ 64) }
+    requires kernel_memory { (kernel_start ≤ m.low.0) × (m.high.0 ≤ kernel_end) }
+    requires few_slots { (1 ≤ n) × (n ≤ 64) }
     ensures { told_slot result ≡ address_arg (read s.now) m a n }
 {
     if !lies_in(m, a, n) {

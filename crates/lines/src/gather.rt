@@ -17,7 +17,7 @@ pub struct Gathered {
 // The byte after the `length` bytes that the buffer has of the line.
 pub fn gather(line: &mut [u8; LINE_LENGTH], length: usize, byte: u8) -> Gathered
     ensures value { result ≡ gathered length byte }
-    ensures line_after { line.new ≡ stored line.old length byte }
+    ensures stored { line.new ≡ stored line.old length byte }
 {
     if byte == b'\n' {
         return Gathered {

@@ -42,7 +42,7 @@ fn past_run(blanks: bool, line: &[u8], at: usize) -> usize
 // The first word that begins at or after `at`; empty, at the line's end, where there is none.
 pub fn word_after(line: &[u8], at: usize) -> Span
     ensures value { result ≡ word_after line.now at }
-    ensures from_le_to { (result.from ≤ result.to) × (result.to ≤ length line.now) }
+    ensures inside { (result.from ≤ result.to) × (result.to ≤ length line.now) }
 {
     let from = past_run(true, line, at);
     let to = past_run(false, line, from);

@@ -1,0 +1,22 @@
+-- `judging_tables::grants::is_inside` meets its contract: each return rewrites with the steps that led there.
+use borrow.Author.Tests.{eq-eqb, le-leb, lt-leb, ne_eqb}
+use borrow.Author.Rules.{rules}
+use Rattle.words.specs.Rights.{inside}
+use Rattle.words.specs.Tests.{◌&◌}
+use Rattle.judging_tables.proofs.grants.is_inside.Goals as goal
+
+pub returns-then-kind_number : goal.returns-then-kind_number
+unfolding inside ◌&◌
+returns-then-kind_number c = rw (← c.kind_number.ensures, ← c.kind_number-2.ensures, ne_eqb _ _ c.if-kind_number.true)
+
+pub returns-then-o-q : goal.returns-then-o-q
+unfolding inside ◌&◌
+returns-then-o-q c = rw (← c.kind_number.ensures, ← c.kind_number-2.ensures, eq-eqb _ _ c.if-kind_number.false, ← c.object_of-o.ensures, ← c.object_of-q.ensures, ne_eqb _ _ c.if-o-q.true)
+
+pub returns-then-low_of : goal.returns-then-low_of
+unfolding inside ◌&◌
+returns-then-low_of c = rw (← c.kind_number.ensures, ← c.kind_number-2.ensures, eq-eqb _ _ c.if-kind_number.false, ← c.object_of-o.ensures, ← c.object_of-q.ensures, eq-eqb _ _ c.if-o-q.false, ← c.low_of.ensures, ← c.low_of-2.ensures, lt-leb _ _ c.if-low_of.true)
+
+pub returns : goal.returns
+unfolding inside ◌&◌
+returns c = rw (← c.kind_number.ensures, ← c.kind_number-2.ensures, eq-eqb _ _ c.if-kind_number.false, ← c.object_of-o.ensures, ← c.object_of-q.ensures, eq-eqb _ _ c.if-o-q.false, ← c.low_of.ensures, ← c.low_of-2.ensures, le-leb _ _ c.if-low_of.false, ← c.high_of.ensures, ← c.high_of-2.ensures)

@@ -1,0 +1,15 @@
+-- `lines::spans::past_run` meets its contract: as long as bytes pass, the run from the next index on ends where the whole does.
+use mathlib.Core.Path.{◌≡◌, refl, sym, ◌∙◌}
+use Prim.Native.Nat.{◌-◌}
+use lib.ListN.{length}
+use borrow.Author.Rules.{rules}
+use borrow.Author.Tests.{not-true, not-false}
+use Rattle.lines.proofs.Runs.{run_more, run_stops, run_past}
+use Rattle.lines.specs.Spans.{passing, past_run}
+use Rattle.lines.proofs.spans.past_run.Given as goal
+
+abbrev pub invariant-loop-i : goal.invariant-loop-i
+invariant-loop-i l = past_run (passing l.blanks) l.line l.at ≡ past_run (passing l.blanks) l.line l.i
+
+abbrev pub decreases-loop-i : goal.decreases-loop-i
+decreases-loop-i l = length l.line - l.i
