@@ -31,7 +31,7 @@ pub(crate) enum Reading {
 
 fn take_data(body: &[u8], upper: u32, cells: &mut [u16; STATE_LENGTH]) -> Taken
     requires { (spells body.now ≡ true) × (whole (spelled_by body.now) ≡ true) × (length cells.old ≡ state_length) }
-    ensures value { told result cells.exit.now ≡ data_step (record { cells = cells.entry.now; upper = upper }) (half * upper + address_in (spelled_by body.now)) (data_in (spelled_by body.now)) }
+    ensures value { told result cells.new ≡ data_step (record { cells = cells.old; upper = upper }) (half * upper + address_in (spelled_by body.now)) (data_in (spelled_by body.now)) }
     ensures same_length { length cells.new ≡ state_length }
 {
     if upper != STATE_UPPER {
@@ -61,7 +61,7 @@ fn take_end(cells: &[u16; STATE_LENGTH]) -> Taken
 
 fn take_record(body: &[u8], upper: u32, cells: &mut [u16; STATE_LENGTH]) -> Taken
     requires { (spells body.now ≡ true) × (whole (spelled_by body.now) ≡ true) × (length cells.old ≡ state_length) }
-    ensures value { told result cells.exit.now ≡ record_step (record { cells = cells.entry.now; upper = upper }) (spelled_by body.now) }
+    ensures value { told result cells.new ≡ record_step (record { cells = cells.old; upper = upper }) (spelled_by body.now) }
     ensures same_length { length cells.new ≡ state_length }
 {
     match type_in(body) {
@@ -73,7 +73,7 @@ fn take_record(body: &[u8], upper: u32, cells: &mut [u16; STATE_LENGTH]) -> Take
 
 pub(crate) fn take_line(line: &[u8], upper: u32, cells: &mut [u16; STATE_LENGTH]) -> Taken
     requires { length cells.old ≡ state_length }
-    ensures value { told result cells.exit.now ≡ line_step (record { cells = cells.entry.now; upper = upper }) line.now }
+    ensures value { told result cells.new ≡ line_step (record { cells = cells.old; upper = upper }) line.now }
     ensures same_length { length cells.new ≡ state_length }
 {
     if !ended(line) {
@@ -105,8 +105,8 @@ fn nothing_more(text: &[u8], at: usize, taken: usize) -> Reading
 
 pub(crate) fn read_text(text: &[u8], cells: &mut [u16; STATE_LENGTH]) -> Reading
     requires { length cells.old ≡ state_length }
-    ensures value { told_text result cells.exit.now ≡ read_lines (record { cells = cells.entry.now; upper = 0 }) (lines_of text.now) }
-    ensures lines { lines_in result ≡ lines_taken (record { cells = cells.entry.now; upper = 0 }) (lines_of text.now) }
+    ensures value { told_text result cells.new ≡ read_lines (record { cells = cells.old; upper = 0 }) (lines_of text.now) }
+    ensures lines { lines_in result ≡ lines_taken (record { cells = cells.old; upper = 0 }) (lines_of text.now) }
     ensures same_length { length cells.new ≡ state_length }
 {
     let mut upper: u32 = 0;
