@@ -12,8 +12,7 @@ use words::fields::Words;
 use words::refusals::{Refusal, refusal_number};
 
 // The caller's slot and the four words N:C, P1, P2, P3. Order: −19, −18, −17, then the arguments.
-#[unsafe(no_mangle)]
-pub extern "C" fn kernel_call(s: &mut [u8], caller: u32, w0: u32, w1: u32, w2: u32, w3: u32) -> i32
+pub fn kernel_call(s: &mut [u8], caller: u32, w0: u32, w1: u32, w2: u32, w3: u32) -> i32
     ensures { (record { reply = result; buffer = s.new }) ≡ call_outcome s.old caller (four w0 w1 w2 w3) }
 {
     if !well_formed(s) {

@@ -10,8 +10,7 @@ use words::refusals::refusal_number;
 
 // N:C and P3 go into the first two of the lent words; what is behind them stays. −61: fewer than two are lent. −5: an address off 64,
 // or flags above 63. A refusal changes nothing.
-#[unsafe(no_mangle)]
-pub extern "C" fn kernel_pack(lower: u32, upper: u32, flags: u32, words: &mut [u32]) -> i32
+pub fn kernel_pack(lower: u32, upper: u32, flags: u32, words: &mut [u32]) -> i32
     ensures { (record { reply = result; words = words.new }) ≡ pack_result lower upper flags words.old }
 {
     if words.len() < 2 {
@@ -34,8 +33,7 @@ pub extern "C" fn kernel_pack(lower: u32, upper: u32, flags: u32, words: &mut [u
 
 // Lower address, upper address (excluded) and flags go into the first three of the lent words; what is behind them stays. −61: fewer
 // than three are lent, and nothing changes.
-#[unsafe(no_mangle)]
-pub extern "C" fn kernel_unpack(nc: u32, p3: u32, words: &mut [u32]) -> i32
+pub fn kernel_unpack(nc: u32, p3: u32, words: &mut [u32]) -> i32
     ensures { (record { reply = result; words = words.new }) ≡ unpack_result nc p3 words.old }
 {
     if words.len() < 3 {

@@ -30,8 +30,7 @@ fn happen(s: &mut [u8], caller: u32, w0: u32, w1: u32, w2: u32, w3: u32) -> i32
 
 // A script has five words an event: the caller and the four words. The answers go into `answers`, in order; what is behind them
 // stays. −60: the script is cut inside an event. −61: fewer answers than events are lent. A refusal changes nothing.
-#[unsafe(no_mangle)]
-pub extern "C" fn kernel_run(s: &mut [u8], script: &[u32], answers: &mut [i32]) -> i32
+pub fn kernel_run(s: &mut [u8], script: &[u32], answers: &mut [i32]) -> i32
     ensures { (record { reply = result; buffer = s.new; answers = answers.new }) ≡ run_result s.old script.now answers.old }
 {
     let n = script.len() / EVENT_WORDS;

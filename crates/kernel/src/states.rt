@@ -10,8 +10,7 @@ use words::sizes::STATE_LENGTH;
 use writing::clock::store_clock;
 
 // "Boot refuses only a wrong length": −19, and the bytes stay; else 0 and the boot state, whatever was there.
-#[unsafe(no_mangle)]
-pub extern "C" fn kernel_boot(s: &mut [u8]) -> i32
+pub fn kernel_boot(s: &mut [u8]) -> i32
     ensures { (record { reply = result; buffer = s.new }) ≡ boot_outcome s.old }
 {
     if s.len() != STATE_LENGTH {
@@ -22,8 +21,7 @@ pub extern "C" fn kernel_boot(s: &mut [u8]) -> i32
 }
 
 // "a tick adds 1 mod 2^32": a wrapping add. −19 as a call would.
-#[unsafe(no_mangle)]
-pub extern "C" fn kernel_tick(s: &mut [u8]) -> i32
+pub fn kernel_tick(s: &mut [u8]) -> i32
     ensures { (record { reply = result; buffer = s.new }) ≡ tick_outcome s.old }
 {
     if !well_formed(s) {
@@ -35,8 +33,7 @@ pub extern "C" fn kernel_tick(s: &mut [u8]) -> i32
 }
 
 // "the check says yes exactly when −19 would not be given"
-#[unsafe(no_mangle)]
-pub extern "C" fn kernel_check(s: &[u8]) -> bool
+pub fn kernel_check(s: &[u8]) -> bool
     ensures { result ≡ sound s.now }
 {
     well_formed(s)

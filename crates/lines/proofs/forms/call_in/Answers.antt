@@ -10,24 +10,24 @@ returns-then-n-ne5 c = rw (← c.requires, ne_eqb _ _ c.if-n-ne5.true)
 
 pub returns-in-Faulty : goal.returns-in-Faulty
 unfolding call_of five_of
-returns-in-Faulty c = rw (← c.requires, eq-eqb _ _ c.if-n-ne5.false, ← c.QQOperand-at.ensures, c.in-Faulty.is)
+returns-in-Faulty c = rw (← c.requires, eq-eqb _ _ c.if-n-ne5.false, ← c.operand_at.ensures, c.in-Faulty.is)
 
 pub returns-in-Faulty-operand_at : goal.returns-in-Faulty-operand_at
 unfolding call_of five_of
-returns-in-Faulty-operand_at c = rw (← c.requires, eq-eqb _ _ c.if-n-ne5.false, ← c.QQOperand-at.ensures, c.in-Is.is, ← c.operand_at-2.ensures, c.in-Faulty-operand_at.is)
+returns-in-Faulty-operand_at c = rw (← c.requires, eq-eqb _ _ c.if-n-ne5.false, ← c.operand_at.ensures, c.in-Is.is, ← c.operand_at-2.ensures, c.in-Faulty-operand_at.is)
 
 pub returns-in-Faulty-operand_at-2 : goal.returns-in-Faulty-operand_at-2
 unfolding call_of five_of
-returns-in-Faulty-operand_at-2 c = rw (← c.requires, eq-eqb _ _ c.if-n-ne5.false, ← c.QQOperand-at.ensures, c.in-Is.is, ← c.operand_at-2.ensures, c.in-Is-operand_at.is, ← c.operand_at-3.ensures, c.in-Faulty-operand_at-2.is)
+returns-in-Faulty-operand_at-2 c = rw (← c.requires, eq-eqb _ _ c.if-n-ne5.false, ← c.operand_at.ensures, c.in-Is.is, ← c.operand_at-2.ensures, c.in-Is-operand_at.is, ← c.operand_at-3.ensures, c.in-Faulty-operand_at-2.is)
 
 pub returns-in-Faulty-operand_at-3 : goal.returns-in-Faulty-operand_at-3
 unfolding call_of five_of
-returns-in-Faulty-operand_at-3 c = rw (← c.requires, eq-eqb _ _ c.if-n-ne5.false, ← c.QQOperand-at.ensures, c.in-Is.is, ← c.operand_at-2.ensures, c.in-Is-operand_at.is, ← c.operand_at-3.ensures, c.in-Is-operand_at-2.is, ← c.operand_at-4.ensures, c.in-Faulty-operand_at-3.is)
+returns-in-Faulty-operand_at-3 c = rw (← c.requires, eq-eqb _ _ c.if-n-ne5.false, ← c.operand_at.ensures, c.in-Is.is, ← c.operand_at-2.ensures, c.in-Is-operand_at.is, ← c.operand_at-3.ensures, c.in-Is-operand_at-2.is, ← c.operand_at-4.ensures, c.in-Faulty-operand_at-3.is)
 
 pub returns-in-Faulty-operand_at-4 : goal.returns-in-Faulty-operand_at-4
 unfolding call_of five_of
-returns-in-Faulty-operand_at-4 c = rw (← c.requires, eq-eqb _ _ c.if-n-ne5.false, ← c.QQOperand-at.ensures, c.in-Is.is, ← c.operand_at-2.ensures, c.in-Is-operand_at.is, ← c.operand_at-3.ensures, c.in-Is-operand_at-2.is, ← c.operand_at-4.ensures, c.in-Is-operand_at-3.is, ← c.operand_at-5.ensures, c.in-Faulty-operand_at-4.is)
+returns-in-Faulty-operand_at-4 c = rw (← c.requires, eq-eqb _ _ c.if-n-ne5.false, ← c.operand_at.ensures, c.in-Is.is, ← c.operand_at-2.ensures, c.in-Is-operand_at.is, ← c.operand_at-3.ensures, c.in-Is-operand_at-2.is, ← c.operand_at-4.ensures, c.in-Is-operand_at-3.is, ← c.operand_at-5.ensures, c.in-Faulty-operand_at-4.is)
 
 pub returns : goal.returns
 unfolding call_of five_of
-returns c = rw (← c.requires, eq-eqb _ _ c.if-n-ne5.false, ← c.QQOperand-at.ensures, c.in-Is.is, ← c.operand_at-2.ensures, c.in-Is-operand_at.is, ← c.operand_at-3.ensures, c.in-Is-operand_at-2.is, ← c.operand_at-4.ensures, c.in-Is-operand_at-3.is, ← c.operand_at-5.ensures, c.in-Is-operand_at-4.is)
+returns c = rw (← c.requires, eq-eqb _ _ c.if-n-ne5.false, ← c.operand_at.ensures, c.in-Is.is, ← c.operand_at-2.ensures, c.in-Is-operand_at.is, ← c.operand_at-3.ensures, c.in-Is-operand_at-2.is, ← c.operand_at-4.ensures, c.in-Is-operand_at-3.is, ← c.operand_at-5.ensures, c.in-Is-operand_at-4.is)

@@ -11,7 +11,7 @@ returns c =
     let a = c.args in
     let f = c.past_run-from in
     let t = c.past_run-to in
-    let in_it : f.result ≤ length a.line.now = rw f.ensures (run_ends blank a.line.now a.at) in (
-      rw (t.ensures, f.ensures),
-      (rw t.ensures (run_ahead solid a.line.now f.result in_it), rw t.ensures (run_ends solid a.line.now f.result)),
-    )
+    let in_it : f.result ≤ length a.line.now = rw f.ensures (run_ends blank a.line.now a.at) in record {
+      value = rw (t.ensures, f.ensures);
+      inside = (rw t.ensures (run_ahead solid a.line.now f.result in_it), rw t.ensures (run_ends solid a.line.now f.result));
+    }

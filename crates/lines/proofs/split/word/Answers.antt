@@ -20,7 +20,7 @@ loop-left-preserved c =
     let one_less : l.left ≡ suc (l.left - 1) = omega arith in (
       search rules,
       l.invariant.1 ∙ ap (λ (n : ℕ). get_or (words_of (drop l.at a.line.now)) n []) one_less
-          ∙ word_later a.line.now l.at l.invariant.0 s.result s.ensures.0 (l.left - 1),
+          ∙ word_later a.line.now l.at l.invariant.0 s.result s.ensures.value (l.left - 1),
     )
 
 pub returns : goal.returns
@@ -29,4 +29,4 @@ returns c =
     let l = c.loop-left in
     let s = c.word_after-s-2 in
     let none : l.left ≡ 0 = omega arith in
-    sym (l.invariant.1 ∙ rw none (word_here a.line.now l.at l.invariant.0 s.result s.ensures.0))
+    sym (l.invariant.1 ∙ rw none (word_here a.line.now l.at l.invariant.0 s.result s.ensures.value))

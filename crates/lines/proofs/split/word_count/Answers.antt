@@ -16,14 +16,14 @@ returns-then-line-from c =
     let a = c.args in
     let l = c.loop-at in
     let s = c.word_after-s in
-    omega (arith, ap length (next_none a.line.now l.at l.invariant.0 s.result s.ensures.0 c.if-line-from.true))
+    omega (arith, ap length (next_none a.line.now l.at l.invariant.0 s.result s.ensures.value c.if-line-from.true))
 
 pub loop-at-smaller : goal.loop-at-smaller
 loop-at-smaller c = 
     let a = c.args in
     let l = c.loop-at in
     let s = c.word_after-s in
-    omega (arith, progress a.line.now l.at l.invariant.0 s.result s.ensures.0 c.if-line-from.false)
+    omega (arith, progress a.line.now l.at l.invariant.0 s.result s.ensures.value c.if-line-from.false)
 
 pub loop-at-preserved : goal.loop-at-preserved
 loop-at-preserved c = 
@@ -31,8 +31,8 @@ loop-at-preserved c =
     let l = c.loop-at in
     let s = c.word_after-s in (
       search rules,
-      omega (arith, progress a.line.now l.at l.invariant.0 s.result s.ensures.0 c.if-line-from.false),
-      omega (arith, ap length (next_word a.line.now l.at l.invariant.0 s.result s.ensures.0 c.if-line-from.false)),
+      omega (arith, progress a.line.now l.at l.invariant.0 s.result s.ensures.value c.if-line-from.false),
+      omega (arith, ap length (next_word a.line.now l.at l.invariant.0 s.result s.ensures.value c.if-line-from.false)),
     )
 
 pub returns : goal.returns

@@ -1,0 +1,21 @@
+-- `kernel::grants::kernel_pack` meets its contract: by the room that is lent and what packing answers.
+use Rattle.std.proofs.Common.{w32, rules, le-leb}
+use borrow.Author.Tests.{lt-leb}
+use mir.ValLaws.{to_z-of_z}
+use Rattle.kernel.specs.Grants.{pack_result}
+use Rattle.kernel.proofs.Packings.{two_in_front}
+use Rattle.kernel.proofs.grants.kernel_pack.Goals as goal
+
+pub returns-then-words-lt2 : goal.returns-then-words-lt2
+unfolding pack_result
+returns-then-words-lt2 c = rw (lt-leb 2 _ c.if-words-lt2.true)
+
+pub returns-in-Words : goal.returns-in-Words
+unfolding pack_result
+returns-in-Words c = 
+    let room = c.if-words-lt2.false in
+    rw (le-leb 2 _ room, ← c.pack_grant-p.ensures, c.in-Words.is, two_in_front c.args.words.now _ _ room)
+
+pub returns-in-Refused : goal.returns-in-Refused
+unfolding pack_result
+returns-in-Refused c = rw (le-leb 2 _ c.if-words-lt2.false, ← c.pack_grant-p.ensures, c.in-Refused.is, to_z-of_z w32 c.refusal_number.result (record { sfits = c.refusal_number.type_inv }), c.refusal_number.ensures)
