@@ -2,6 +2,5 @@
 // writes the lent bytes stands in the crates above.
 #![tactic(auto)]
 
-
 // "A state is a lent buffer of exactly 17,472 bytes".
 pub const STATE_LENGTH: usize = 17472;

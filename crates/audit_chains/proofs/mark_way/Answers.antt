@@ -18,7 +18,7 @@ pub bounds-marks-x : goal.bounds-marks-x
 bounds-marks-x c = omega (arith, reaches_inside (read c.args.s.now) c.requires.0.laid c.loop-marks.x c.loop-marks.invariant.0)
 
 pub bounds-marks-x-in-loop-marks : goal.bounds-marks-x-in-loop-marks
-bounds-marks-x-in-loop-marks c = 
+bounds-marks-x-in-loop-marks c =
     let l = c.loop-marks in
     omega (arith, reaches_inside (read c.args.s.now) c.requires.0.laid l.x l.invariant.0)
 
@@ -26,18 +26,18 @@ pub parent_word-w-requires : goal.parent_word-w-requires
 parent_word-w-requires c = (c.requires.0, reaches_holds (read c.args.s.now) c.loop-marks.x c.loop-marks.invariant.0)
 
 pub returns-then-w-eq0 : goal.returns-then-w-eq0
-returns-then-w-eq0 c = 
+returns-then-w-eq0 c =
     let l = c.loop-marks in
     shown_more (read c.args.s.now) c.requires.0.laid l.marks l.x l.invariant.0 l.invariant.1
 
 pub loop-marks-smaller : goal.loop-marks-smaller
-loop-marks-smaller c = 
+loop-marks-smaller c =
     let l = c.loop-marks in
     zeros_fall l.marks l.x _ (omega (arith, l.invariant.1.long, reaches_inside (read c.args.s.now) c.requires.0.laid l.x l.invariant.0))
     c.loop-marks-test.true (omega arith)
 
 pub loop-marks-preserved : goal.loop-marks-preserved
-loop-marks-preserved c = 
+loop-marks-preserved c =
     let l = c.loop-marks in
     let st = read c.args.s.now in
     let q = c.parent_word-w.result - 1 in

@@ -8,7 +8,7 @@ pub returns-then-not-reaches_root : goal.returns-then-not-reaches_root
 returns-then-not-reaches_root c = (sym (sym c.reaches_root.ensures ∙ c.if-not-reaches_root.true), c.requires.1)
 
 pub mark_way-requires : goal.mark_way-requires
-mark_way-requires c = 
+mark_way-requires c =
     let a = c.requires in
     (a.0, a.1, sym c.reaches_root.ensures ∙ c.if-not-reaches_root.false)
 

@@ -17,12 +17,12 @@ pub loop-left-init : goal.loop-left-init
 loop-left-init c = (search rules, c.requires.2, going_start (read c.args.s.now) c.requires.0.laid c.args.p)
 
 pub bounds-marks-x : goal.bounds-marks-x
-bounds-marks-x c = 
+bounds-marks-x c =
     let l = c.loop-left in
     omega (arith, numbered_small c.args.s.now c.requires.0.laid l.x l.invariant.1)
 
 pub returns-then-marks-x-ne0 : goal.returns-then-marks-x-ne0
-returns-then-marks-x-ne0 c = 
+returns-then-marks-x-ne0 c =
     let l = c.loop-left in
     let st = read c.args.s.now in
     going_root st c.requires.0.laid _ l.x _ l.invariant.2 (test_reaches st l.x (c.requires.1.shown l.x c.if-marks-x-ne0.true))
@@ -31,12 +31,12 @@ pub parent_word-w-requires : goal.parent_word-w-requires
 parent_word-w-requires c = (c.requires.0, c.loop-left.invariant.1)
 
 pub returns-then-w-eq0 : goal.returns-then-w-eq0
-returns-then-w-eq0 c = 
+returns-then-w-eq0 c =
     let l = c.loop-left in
     going_root (read c.args.s.now) c.requires.0.laid _ l.x _ l.invariant.2 (root (omega (arith, c.parent_word-w.ensures)))
 
 pub loop-left-preserved : goal.loop-left-preserved
-loop-left-preserved c = 
+loop-left-preserved c =
     let l = c.loop-left in
     let st = read c.args.s.now in
     let q = c.parent_word-w.result - 1 in
@@ -47,6 +47,6 @@ loop-left-preserved c =
     )
 
 pub returns : goal.returns
-returns c = 
+returns c =
     let l = c.loop-left in
     going_spent (read c.args.s.now) c.requires.0.laid _ l.x _ (omega arith) l.invariant.2

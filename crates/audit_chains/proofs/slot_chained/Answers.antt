@@ -9,7 +9,7 @@ use Rattle.audit_chains.proofs.Table.{part_chained, part_parents}
 use Rattle.audit_chains.proofs.slot_chained.Goals as goal
 
 pub returns-then-n-eq0 : goal.returns-then-n-eq0
-returns-then-n-eq0 c = 
+returns-then-n-eq0 c =
     let none = sym c.entries_in-n.ensures ∙ c.if-n-eq0.true in
     (rw none (sym (all_zero _)), c.requires.1)
 
@@ -17,7 +17,7 @@ pub table_slots-requires : goal.table_slots-requires
 table_slots-requires c = omega (arith, c.entries_in-n.ensures, entries_few (read c.args.s.now) c.requires.0.laid c.args.t)
 
 pub table_chained-requires : goal.table_chained-requires
-table_chained-requires c = 
+table_chained-requires c =
     let n = c.entries_in-n.ensures in
     let part = c.table_slots.ensures in (
       c.requires.0,
@@ -28,7 +28,7 @@ table_chained-requires c =
     )
 
 pub returns : goal.returns
-returns c = 
+returns c =
     let n = c.entries_in-n.ensures in
     let part = c.table_slots.ensures in
     (c.table_chained.ensures.0 ∙ rw (part, n) (part_chained c.args.s.now c.requires.0 c.args.t (search rules)), c.table_chained.ensures.1)

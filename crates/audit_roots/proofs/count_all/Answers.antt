@@ -12,19 +12,19 @@ pub loop-i-init : goal.loop-i-init
 loop-i-init c = let a = c.args in (search rules, counts_same _ _ _ c.requires.3 (listed_none (read a.s.now) a.heads.now))
 
 pub count_slot-requires : goal.count_slot-requires
-count_slot-requires c = 
+count_slot-requires c =
     let l = c.loop-i in
     let pre = c.requires in
     (pre.0, pre.1, counts_upto _ _ most_roots l.invariant.1 (λ k h. omega (arith, listed_most _ pre.1 c.args.heads.now l.i k, l.invariant.0, pre.2.few)))
 
 pub loop-i-preserved : goal.loop-i-preserved
-loop-i-preserved c = 
+loop-i-preserved c =
     let l = c.loop-i in
     let a = c.args in
     (search rules, counts_next _ _ _ _ _ l.invariant.1 c.count_slot.ensures (λ k. sym (listed_next (read a.s.now) a.heads.now l.i k)))
 
 pub returns : goal.returns
-returns c = 
+returns c =
     let l = c.loop-i in
     let done : l.i ≡ c.args.n = omega arith in
     counts_same _ _ _ (rw done at l.invariant.1) (listed_all _ _ c.args.n c.requires.2)

@@ -10,7 +10,7 @@ use Rattle.audit_roots.proofs.Counting.{among_same, counts_same, none_yet}
 use Rattle.audit_roots.proofs.count_slot.Goals as goal
 
 pub returns-then-n-eq0 : goal.returns-then-n-eq0
-returns-then-n-eq0 c = 
+returns-then-n-eq0 c =
     let a = c.args in
     let none = sym c.entries_in-n.ensures ∙ c.if-n-eq0.true in
     rw none (none_yet _ _ c.requires.2.long)
@@ -19,7 +19,7 @@ pub table_slots-requires : goal.table_slots-requires
 table_slots-requires c = omega (arith, c.entries_in-n.ensures, entries_few (read c.args.s.now) c.requires.1 c.args.t)
 
 pub count_table-requires : goal.count_table-requires
-count_table-requires c = 
+count_table-requires c =
     let a = c.args in
     let pre = c.requires in
     let n = c.entries_in-n.ensures in (
@@ -29,7 +29,7 @@ count_table-requires c =
     )
 
 pub returns : goal.returns
-returns c = 
+returns c =
     let a = c.args in
     let pre = c.requires in
     let n = c.entries_in-n.ensures in

@@ -13,15 +13,14 @@ pub loop-e-init : goal.loop-e-init
 loop-e-init c = (search rules, none_yet _ _ c.requires.2.long)
 
 pub count_entry-requires : goal.count_entry-requires
-count_entry-requires c = 
-    let l = c.loop-e in
-    (
+count_entry-requires c =
+    let l = c.loop-e in (
       omega (arith, c.requires.0, c.loop-e-test.true),
       counts_upto _ _ (most_roots + place_count) l.invariant.1 (λ k h. omega (arith, c.requires.2.most k h, among_most (λ i. place_of c.args.p.now (32 * i)) l.e k, l.invariant.0, c.requires.1)),
     )
 
 pub loop-e-preserved : goal.loop-e-preserved
-loop-e-preserved c = 
+loop-e-preserved c =
     let l = c.loop-e in
     let a = c.args in (
       search rules,
@@ -30,7 +29,7 @@ loop-e-preserved c =
     )
 
 pub returns : goal.returns
-returns c = 
+returns c =
     let l = c.loop-e in
     let done : l.e ≡ c.args.n = omega arith in
     rw (← done) l.invariant.1

@@ -21,20 +21,20 @@ loop-i-init c = (search rules, all_zero _)
 
 pub returns-then-not-one_root : goal.returns-then-not-one_root
 unfolding every_object one_root
-returns-then-not-one_root c = 
+returns-then-not-one_root c =
     let l = c.loop-i in
     let one = sym c.one_root.ensures ∙ c.if-not-one_root.true in
     sym (sym (heads_objects c.args.s.now _ c.args.n c.requires.1 (one_root (read c.args.s.now)) (λ k. refl) (λ k f. refl)) ∙ all_not c.args.n _ l.i c.loop-i-test.true one)
 
 pub loop-i-preserved : goal.loop-i-preserved
-loop-i-preserved c = 
+loop-i-preserved c =
     let l = c.loop-i in
     let one = sym c.one_root.ensures ∙ c.if-not-one_root.false in
     (search rules, rw (add-one l.i) (all_more l.i _ l.invariant.1 one))
 
 pub returns : goal.returns
 unfolding every_object one_root
-returns c = 
+returns c =
     let l = c.loop-i in
     let e : l.i ≡ c.args.n = omega arith in
     sym (sym (heads_objects c.args.s.now _ c.args.n c.requires.1 (one_root (read c.args.s.now)) (λ k. refl) (λ k f. refl)) ∙ rw e at l.invariant.1)

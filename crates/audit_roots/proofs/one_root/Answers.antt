@@ -6,12 +6,12 @@ use Rattle.audit_roots.proofs.Named.{none_owed, one_owed}
 use Rattle.audit_roots.proofs.one_root.Goals as goal
 
 pub returns-then-tag_at-lt-TABLE_TAG : goal.returns-then-tag_at-lt-TABLE_TAG
-returns-then-tag_at-lt-TABLE_TAG c = 
+returns-then-tag_at-lt-TABLE_TAG c =
     let a = c.args in
     sym (none_owed (read a.s.now) a.k _ (rw c.tag_at.ensures at c.if-tag_at-lt-TABLE_TAG.true))
 
 pub returns : goal.returns
-returns c = 
+returns c =
     let a = c.args in
     let pre = c.requires in
     rw (pre.1.each_count a.k.0 (search rules))

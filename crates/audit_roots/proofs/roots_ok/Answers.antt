@@ -12,7 +12,7 @@ use Rattle.audit_roots.proofs.Named.{function_roots, memory_roots}
 use Rattle.audit_roots.proofs.roots_ok.Goals as goal
 
 pub count_all-requires : goal.count_all-requires
-count_all-requires c = 
+count_all-requires c =
     let pre = c.requires in
     (pre.0.size, pre.0.laid, pre.1, none_below _)
 
@@ -25,7 +25,7 @@ returns-then-not-objects_rooted c = sym (and_no _ _ (sym c.objects_rooted.ensure
 
 pub returns-then-counts-ne1 : goal.returns-then-counts-ne1
 unfolding rooted
-returns-then-counts-ne1 c = 
+returns-then-counts-ne1 c =
     let pre = c.requires.0 in
     let memory = c.count_all.ensures.each_count 256 (omega arith) ∙ memory_roots _ pre.laid pre.rights in
     sym
@@ -34,7 +34,7 @@ returns-then-counts-ne1 c =
 
 pub returns : goal.returns
 unfolding rooted
-returns c = 
+returns c =
     let pre = c.requires.0 in
     let counted = c.count_all.ensures.each_count in
     let memory = counted 256 (omega arith) ∙ memory_roots _ pre.laid pre.rights in

@@ -19,12 +19,12 @@ store_given-requires c = (c.read_text-a.ensures.same_length, c.if-s-ne-STATE_LEN
 
 pub returns-in-Not : goal.returns-in-Not
 unfolding unset
-returns-in-Not c = 
+returns-in-Not c =
     rw (to_z-of_z w32 c.fault_number.result (record { sfits = c.fault_number.type_inv }), c.fault_number.ensures)
     (sym (outcome_of c.args.text.now c.args.s.now _ c.if-s-ne-STATE_LENGTH.false (rw c.in-Not.is at c.read_text-a.ensures.value)))
 
 pub returns-in-Whole : goal.returns-in-Whole
 unfolding unset
-returns-in-Whole c = 
+returns-in-Whole c =
     rw (to_z-of_z w32 c.store_given.result (record { sfits = c.store_given.type_inv }))
     (c.store_given.ensures ∙ sym (outcome_of c.args.text.now c.args.s.now _ c.if-s-ne-STATE_LENGTH.false (rw c.in-Whole.is at c.read_text-a.ensures.value)))

@@ -19,7 +19,7 @@ pub loop-i-init : goal.loop-i-init
 loop-i-init c = (search rules, all_zero _)
 
 pub returns-then-not-position_clean : goal.returns-then-not-position_clean
-returns-then-not-position_clean c = 
+returns-then-not-position_clean c =
     let a = c.args in
     let l = c.loop-i in
     let q : header_size + position_size * l.i + 4 ≡ 36 + 8 * l.i = omega arith in
@@ -29,7 +29,7 @@ returns-then-not-position_clean c =
     sym (all_not a.n (λ j. position_stands a.p.now (header_size + position_size * j)) l.i c.loop-i-test.true (here ∙ c.if-not-position_clean.true))
 
 pub loop-i-preserved : goal.loop-i-preserved
-loop-i-preserved c = 
+loop-i-preserved c =
     let a = c.args in
     let l = c.loop-i in
     let q : header_size + position_size * l.i + 4 ≡ 36 + 8 * l.i = omega arith in
@@ -39,7 +39,7 @@ loop-i-preserved c =
     (search rules, rw (add-one l.i) (all_more l.i (λ j. position_stands a.p.now (header_size + position_size * j)) l.invariant.1 (here ∙ c.if-not-position_clean.false)))
 
 pub returns : goal.returns
-returns c = 
+returns c =
     let a = c.args in
     let l = c.loop-i in
     let e : l.i ≡ a.n = omega arith in

@@ -19,7 +19,7 @@ pub loop-k-init : goal.loop-k-init
 loop-k-init c = (search rules, all_zero _)
 
 pub returns-then-not-note_clean : goal.returns-then-not-note_clean
-returns-then-not-note_clean c = 
+returns-then-not-note_clean c =
     let a = c.args in
     let l = c.loop-k in
     let here = note_stands_lem a.s.now (λ j. (c.shared_slice_known-1.given j).fits) c.requires.0 (slot l.k) (omega (arith, c.requires.1.few))
@@ -27,7 +27,7 @@ returns-then-not-note_clean c =
     sym (all_not 256 (λ j. note_stands a.s.now (slot j)) l.k (omega (arith, c.requires.1.few)) (here ∙ c.if-not-note_clean.true))
 
 pub loop-k-preserved : goal.loop-k-preserved
-loop-k-preserved c = 
+loop-k-preserved c =
     let a = c.args in
     let l = c.loop-k in
     let here = note_stands_lem a.s.now (λ j. (c.shared_slice_known-1.given j).fits) c.requires.0 (slot l.k) (omega (arith, c.requires.1.few))
@@ -36,7 +36,7 @@ loop-k-preserved c =
 
 pub returns : goal.returns
 unfolding note_clean
-returns c = 
+returns c =
     let a = c.args in
     let l = c.loop-k in
     let e : l.k ≡ a.n = omega arith in

@@ -12,7 +12,7 @@ use Rattle.audit_bytes.proofs.SlotParts.{Cut, cut_directory, cut_small, cut_stan
 use Rattle.audit_bytes.proofs.objects.object_stands.Goals as goal
 
 pub table_stands-requires : goal.table_stands-requires
-table_stands-requires c = 
+table_stands-requires c =
     let p = c.own_slots.result.now in
     let cut : Cut c.args.s.now c.args.k p =
     record { inside = search rules; long = c.requires.0; laid = c.requires.1; part = c.own_slots.ensures } in
@@ -20,7 +20,7 @@ table_stands-requires c =
     cut_table _ _ _ cut tag ∙ ap (λ (i : ℕ). slot_size * slots_for (entry_size * i)) (sym c.argument_byte.ensures)
 
 pub directory_stands-requires : goal.directory_stands-requires
-directory_stands-requires c = 
+directory_stands-requires c =
     let p = c.own_slots-in-3.result.now in
     let cut : Cut c.args.s.now c.args.k p =
     record { inside = search rules; long = c.requires.0; laid = c.requires.1; part = c.own_slots-in-3.ensures } in
@@ -28,7 +28,7 @@ directory_stands-requires c =
     cut_directory _ _ _ cut tag ∙ ap (λ (i : ℕ). slot_size * slots_for (header_size + position_size * i)) (sym c.positions_in.ensures)
 
 pub process_stands-requires : goal.process_stands-requires
-process_stands-requires c = 
+process_stands-requires c =
     let p = c.own_slots-in-4.result.now in
     let cut : Cut c.args.s.now c.args.k p =
     record { inside = search rules; long = c.requires.0; laid = c.requires.1; part = c.own_slots-in-4.ensures } in
@@ -36,7 +36,7 @@ process_stands-requires c =
     cut_small _ _ _ cut 4 tag (omega arith)
 
 pub endpoint_stands-requires : goal.endpoint_stands-requires
-endpoint_stands-requires c = 
+endpoint_stands-requires c =
     let p = c.own_slots-in-5.result.now in
     let cut : Cut c.args.s.now c.args.k p =
     record { inside = search rules; long = c.requires.0; laid = c.requires.1; part = c.own_slots-in-5.ensures } in
@@ -44,13 +44,13 @@ endpoint_stands-requires c =
     cut_small _ _ _ cut 5 tag (omega arith)
 
 pub returns-in-1 : goal.returns-in-1
-returns-in-1 c = 
+returns-in-1 c =
     let a = c.args in
     sym (later_stands a.s.now a.k (search rules) (sym c.tag_byte.ensures ∙ c.in-1.is))
 
 pub returns-in-2 : goal.returns-in-2
 unfolding object_from
-returns-in-2 c = 
+returns-in-2 c =
     let p = c.own_slots.result.now in
     let cut : Cut c.args.s.now c.args.k p =
     record { inside = search rules; long = c.requires.0; laid = c.requires.1; part = c.own_slots.ensures } in
@@ -61,7 +61,7 @@ returns-in-2 c =
 
 pub returns-in-3 : goal.returns-in-3
 unfolding object_from
-returns-in-3 c = 
+returns-in-3 c =
     let p = c.own_slots-in-3.result.now in
     let cut : Cut c.args.s.now c.args.k p =
     record { inside = search rules; long = c.requires.0; laid = c.requires.1; part = c.own_slots-in-3.ensures } in
@@ -72,7 +72,7 @@ returns-in-3 c =
 
 pub returns-in-4 : goal.returns-in-4
 unfolding object_from
-returns-in-4 c = 
+returns-in-4 c =
     let p = c.own_slots-in-4.result.now in
     let cut : Cut c.args.s.now c.args.k p =
     record { inside = search rules; long = c.requires.0; laid = c.requires.1; part = c.own_slots-in-4.ensures } in
@@ -81,7 +81,7 @@ returns-in-4 c =
 
 pub returns-in-5 : goal.returns-in-5
 unfolding object_from
-returns-in-5 c = 
+returns-in-5 c =
     let p = c.own_slots-in-5.result.now in
     let cut : Cut c.args.s.now c.args.k p =
     record { inside = search rules; long = c.requires.0; laid = c.requires.1; part = c.own_slots-in-5.ensures } in
@@ -89,7 +89,7 @@ returns-in-5 c =
     c.endpoint_stands.ensures ∙ cut_stands _ _ _ cut 5 tag
 
 pub returns-in_default : goal.returns-in_default
-returns-in_default c = 
+returns-in_default c =
     let e = c.tag_byte.ensures in
     let d = c.in_default.in_default-own.rest in
     c.zeros_in.ensures

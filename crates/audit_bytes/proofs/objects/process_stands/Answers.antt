@@ -12,13 +12,13 @@ pub returns-then-word_in-ge-SLOT_COUNT_U32 : goal.returns-then-word_in-ge-SLOT_C
 returns-then-word_in-ge-SLOT_COUNT_U32 c = sym (process_stands c.args.p.now (λ j. (c.shared_slice_known-1.given j).fits) c.requires ∙ and_no _ _ (ap (λ (x : ℕ). ltb x 256) (sym c.word_in.ensures) ∙ le-ltb _ _ c.if-word_in-ge-SLOT_COUNT_U32.true))
 
 pub returns-then-word_in-ge-SLOT_COUNT_U32-2 : goal.returns-then-word_in-ge-SLOT_COUNT_U32-2
-returns-then-word_in-ge-SLOT_COUNT_U32-2 c = 
+returns-then-word_in-ge-SLOT_COUNT_U32-2 c =
     sym (process_stands c.args.p.now (λ j. (c.shared_slice_known-1.given j).fits) c.requires
     ∙ and_yes _ _ (ap (λ (x : ℕ). ltb x 256) (sym c.word_in.ensures) ∙ lt-ltb _ _ c.if-word_in-ge-SLOT_COUNT_U32.false)
     ∙ and_no _ _ (ap (λ (x : ℕ). ltb x 256) (sym c.word_in-2.ensures) ∙ le-ltb _ _ c.if-word_in-ge-SLOT_COUNT_U32-2.true))
 
 pub returns : goal.returns
-returns c = 
+returns c =
     c.zeros_in.ensures
     ∙ sym (process_stands c.args.p.now (λ j. (c.shared_slice_known-1.given j).fits) c.requires
     ∙ and_yes _ _ (ap (λ (x : ℕ). ltb x 256) (sym c.word_in.ensures) ∙ lt-ltb _ _ c.if-word_in-ge-SLOT_COUNT_U32.false)

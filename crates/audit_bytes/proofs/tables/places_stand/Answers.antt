@@ -16,19 +16,19 @@ pub loop-i-init : goal.loop-i-init
 loop-i-init c = (search rules, all_zero _)
 
 pub returns-then-not-place_stands : goal.returns-then-not-place_stands
-returns-then-not-place_stands c = 
+returns-then-not-place_stands c =
     let a = c.args in
     let l = c.loop-i in
     sym (all_not a.n (λ j. place_stands a.p.now (entry_size * j)) l.i c.loop-i-test.true (sym c.place_stands.ensures ∙ c.if-not-place_stands.true))
 
 pub loop-i-preserved : goal.loop-i-preserved
-loop-i-preserved c = 
+loop-i-preserved c =
     let a = c.args in
     let l = c.loop-i in
     (search rules, rw (add-one l.i) (all_more l.i (λ j. place_stands a.p.now (entry_size * j)) l.invariant.1 (sym c.place_stands.ensures ∙ c.if-not-place_stands.false)))
 
 pub returns : goal.returns
-returns c = 
+returns c =
     let a = c.args in
     let l = c.loop-i in
     let e : l.i ≡ a.n = omega arith in

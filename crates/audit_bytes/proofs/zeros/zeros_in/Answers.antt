@@ -19,7 +19,7 @@ loop-i-init c = (search rules, sym (all_zero _))
 
 pub loop-i-preserved : goal.loop-i-preserved
 unfolding zero_words
-loop-i-preserved c = 
+loop-i-preserved c =
     let a = c.args in
     let l = c.loop-i in (
       search rules,
@@ -29,7 +29,7 @@ loop-i-preserved c =
     )
 
 pub returns : goal.returns
-returns c = 
+returns c =
     let a = c.args in
     let l = c.loop-i in
     let e : l.i ≡ a.n = omega arith in

@@ -16,28 +16,28 @@ pub loop-k-init : goal.loop-k-init
 loop-k-init c = (search rules, heads_none _ _ c.requires.1, order_none _ _)
 
 pub loop-k-preserved : goal.loop-k-preserved
-loop-k-preserved c = 
+loop-k-preserved c =
     let l = c.loop-k in
     let b = c.args.s.now in
     elim c.if-tag_byte-gt-LATER_TAG.branch [
-      then-tag_byte-gt-LATER_TAG w ↦
-        let t : 1 < get_or b (memory_length + 4 * l.k) 0 = omega (arith, c.tag_byte.ensures, w.if-tag_byte-gt-LATER_TAG.true) in
-        rw (w.heads-is, w.m-is, add-one l.m, add-one l.k) (
-          omega arith,
-          heads_more _ _ l.m l.k (omega (arith, c.requires.0.few)) l.invariant.1,
-          order_more _ _ _ l.m l.k l.invariant.2 t (omega (arith, c.requires.1, c.requires.0.few, l.invariant.1.few)),
-        )
-    | else-tag_byte-gt-LATER_TAG w ↦
-        let t : NoHead b l.k = omega (arith, c.tag_byte.ensures, w.if-tag_byte-gt-LATER_TAG.false) in
-        rw (w.heads-is, w.m-is, add-one l.k) (
-          omega arith,
-          heads_past _ _ l.m l.k l.invariant.1 t,
-          order_past _ _ _ l.m l.k l.invariant.2 t,
-        )
+      | then-tag_byte-gt-LATER_TAG w ↦
+          let t : 1 < get_or b (memory_length + 4 * l.k) 0 = omega (arith, c.tag_byte.ensures, w.if-tag_byte-gt-LATER_TAG.true) in
+          rw (w.heads-is, w.m-is, add-one l.m, add-one l.k) (
+            omega arith,
+            heads_more _ _ l.m l.k (omega (arith, c.requires.0.few)) l.invariant.1,
+            order_more _ _ _ l.m l.k l.invariant.2 t (omega (arith, c.requires.1, c.requires.0.few, l.invariant.1.few)),
+          )
+      | else-tag_byte-gt-LATER_TAG w ↦
+          let t : NoHead b l.k = omega (arith, c.tag_byte.ensures, w.if-tag_byte-gt-LATER_TAG.false) in
+          rw (w.heads-is, w.m-is, add-one l.k) (
+            omega arith,
+            heads_past _ _ l.m l.k l.invariant.1 t,
+            order_past _ _ _ l.m l.k l.invariant.2 t,
+          )
     ]
 
 pub returns : goal.returns
-returns c = 
+returns c =
     let l = c.loop-k in
     let e : l.k ≡ c.args.n = omega arith in
     let o = order_end _ _ _ _ c.args.n c.requires.0 (rw e at l.invariant.2) in

@@ -10,12 +10,12 @@ pub loop-n-init : goal.loop-n-init
 loop-n-init c = vacant_none _
 
 pub returns-then-word_in-ne0 : goal.returns-then-word_in-ne0
-returns-then-word_in-ne0 c = 
+returns-then-word_in-ne0 c =
     let l = c.loop-n in
     used_at_lem _ l.n c.loop-n-test.true l.invariant (λ e. c.if-word_in-ne0.true (c.word_in.ensures ∙ e))
 
 pub loop-n-preserved : goal.loop-n-preserved
-loop-n-preserved c = 
+loop-n-preserved c =
     let l = c.loop-n in
     vacant_more _ l.n c.loop-n-test.true l.invariant (sym c.word_in.ensures ∙ c.if-word_in-ne0.false)
 

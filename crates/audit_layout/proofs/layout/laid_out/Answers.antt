@@ -16,7 +16,7 @@ pub loop-k-init : goal.loop-k-init
 loop-k-init c = (search rules, lay_start _)
 
 pub returns-then-size-eq0 : goal.returns-then-size-eq0
-returns-then-size-eq0 c = 
+returns-then-size-eq0 c =
     let a = c.args in
     let l = c.loop-k in
     let st = read a.s.now in
@@ -25,7 +25,7 @@ returns-then-size-eq0 c =
     ∙ lay_none st l.first l.k in_it (sym c.size_at-size.ensures ∙ c.if-size-eq0.true))
 
 pub returns-then-not-goes_on : goal.returns-then-not-goes_on
-returns-then-not-goes_on c = 
+returns-then-not-goes_on c =
     let a = c.args in
     let l = c.loop-k in
     let st = read a.s.now in
@@ -34,25 +34,25 @@ returns-then-not-goes_on c =
     (sym c.goes_on.ensures ∙ c.if-not-goes_on.true))
 
 pub loop-k-preserved : goal.loop-k-preserved
-loop-k-preserved c = 
+loop-k-preserved c =
     let a = c.args in
     let l = c.loop-k in
     let st = read a.s.now in
     let in_it : l.k < length st.slots = omega (arith, slots_length a.s.now) in (
       omega arith,
       l.invariant.1 ∙ elim c.if-owed-eq0.branch [
-        then-owed-eq0+else-size-eq0 w ↦
-          ap (λ (n : ℕ). lay_from st n l.first l.k) w.if-owed-eq0.true
-          ∙ lay_new st l.first l.k in_it w.size_at-size.result (sym w.size_at-size.ensures) w.if-size-eq0.false
-          ∙ (λ i. lay_from st (sym w.owed-is i) (sym w.first-is i) (l.k + 1))
-      | else-owed-eq0+else-not-goes_on w ↦
-          lay_more st l.first l.k in_it l.owed w.if-owed-eq0.false (sym w.goes_on.ensures ∙ w.if-not-goes_on.false)
-          ∙ (λ i. lay_from st (sym w.owed-is i) (sym w.first-is i) (l.k + 1))
+        | then-owed-eq0+else-size-eq0 w ↦
+            ap (λ (n : ℕ). lay_from st n l.first l.k) w.if-owed-eq0.true
+            ∙ lay_new st l.first l.k in_it w.size_at-size.result (sym w.size_at-size.ensures) w.if-size-eq0.false
+            ∙ (λ i. lay_from st (sym w.owed-is i) (sym w.first-is i) (l.k + 1))
+        | else-owed-eq0+else-not-goes_on w ↦
+            lay_more st l.first l.k in_it l.owed w.if-owed-eq0.false (sym w.goes_on.ensures ∙ w.if-not-goes_on.false)
+            ∙ (λ i. lay_from st (sym w.owed-is i) (sym w.first-is i) (l.k + 1))
       ],
     )
 
 pub returns : goal.returns
-returns c = 
+returns c =
     let a = c.args in
     let l = c.loop-k in
     sym (l.invariant.1 ∙ lay_vacant (read a.s.now) (256 - l.k) l.owed l.first l.k (omega (arith, slots_length a.s.now, c.requires.1.few))

@@ -11,13 +11,13 @@ use Rattle.audit_objects.proofs.directories.child_ok.Goals as goal
 
 pub returns-then-tag_at-ne-DIRECTORY_TAG : goal.returns-then-tag_at-ne-DIRECTORY_TAG
 unfolding hangs ◌&◌
-returns-then-tag_at-ne-DIRECTORY_TAG c = 
+returns-then-tag_at-ne-DIRECTORY_TAG c =
     let a = c.args in
     rw (directory_number (obj_at (read a.s.now) a.o), ne_eqb _ _ (λ x. c.if-tag_at-ne-DIRECTORY_TAG.true (c.tag_at.ensures ∙ x)))
 
 pub returns-then-c-g : goal.returns-then-c-g
 unfolding hangs ◌&◌
-returns-then-c-g c = 
+returns-then-c-g c =
     let a = c.args in
     let tag = sym c.tag_at.ensures ∙ c.if-tag_at-ne-DIRECTORY_TAG.false in
     rw (
@@ -29,7 +29,7 @@ returns-then-c-g c =
 
 pub returns : goal.returns
 unfolding hangs ◌&◌
-returns c = 
+returns c =
     let a = c.args in
     let tag = sym c.tag_at.ensures ∙ c.if-tag_at-ne-DIRECTORY_TAG.false in
     rw (

@@ -13,32 +13,32 @@ use Rattle.audit_objects.specs.Names.{Geometry}
 use Rattle.audit_objects.proofs.directories.directory_ok.Goals as goal
 
 pub returns-then-not-geometry_ok : goal.returns-then-not-geometry_ok
-returns-then-not-geometry_ok c = 
+returns-then-not-geometry_ok c =
     sym (ok_directory (read c.args.s.now) c.args.k c.requires.2
     ∙ and_no _ _ (sym (ap geometric c.shape_at-g.ensures) ∙ sym c.geometry_ok.ensures ∙ c.if-not-geometry_ok.true))
 
 pub overflow_mul-n : goal.overflow_mul-n
-overflow_mul-n c = 
+overflow_mul-n c =
     let room = directory_room (read c.args.s.now) c.args.k (apart_laid _ c.requires.1) (search rules) c.requires.2 in
     omega (arith, c.positions_in-n.ensures)
 
 pub overflow_add-n : goal.overflow_add-n
-overflow_add-n c = 
+overflow_add-n c =
     let room = directory_room (read c.args.s.now) c.args.k (apart_laid _ c.requires.1) (search rules) c.requires.2 in
     omega (arith, c.positions_in-n.ensures)
 
 pub overflow_add-n-2 : goal.overflow_add-n-2
-overflow_add-n-2 c = 
+overflow_add-n-2 c =
     let room = directory_room (read c.args.s.now) c.args.k (apart_laid _ c.requires.1) (search rules) c.requires.2 in
     omega (arith, c.positions_in-n.ensures)
 
 pub overflow_cast-n : goal.overflow_cast-n
-overflow_cast-n c = 
+overflow_cast-n c =
     let room = directory_room (read c.args.s.now) c.args.k (apart_laid _ c.requires.1) (search rules) c.requires.2 in
     omega (arith, c.positions_in-n.ensures)
 
 pub positions_ok-requires : goal.positions_ok-requires
-positions_ok-requires c = 
+positions_ok-requires c =
     let shape = c.shape_at-g.ensures in
     let passed = sym (ap geometric shape) ∙ sym c.geometry_ok.ensures ∙ c.if-not-geometry_ok.false in
     let size = small_size _ passed in
@@ -48,7 +48,7 @@ positions_ok-requires c =
     )
 
 pub returns : goal.returns
-returns c = 
+returns c =
     let shape = c.shape_at-g.ensures in
     let passed = sym (ap geometric shape) ∙ sym c.geometry_ok.ensures ∙ c.if-not-geometry_ok.false in
     let small = c.shared_slice_known-1.given in

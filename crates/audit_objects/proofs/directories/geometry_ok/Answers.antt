@@ -15,42 +15,42 @@ returns-then-size-gt-MOST_SIZE_ORDER c = rw (le-leb _ _ c.if-size-lt-LEAST_SIZE_
 
 pub returns-then-number-lt-LEAST_NUMBER_ORDER : goal.returns-then-number-lt-LEAST_NUMBER_ORDER
 unfolding geometric ◌&◌
-returns-then-number-lt-LEAST_NUMBER_ORDER c = 
+returns-then-number-lt-LEAST_NUMBER_ORDER c =
     rw (
-  le-leb _ _ c.if-size-lt-LEAST_SIZE_ORDER.false,
-  le-leb _ _ c.if-size-gt-MOST_SIZE_ORDER.false,
-  lt-leb _ _ c.if-number-lt-LEAST_NUMBER_ORDER.true,
-)
+      le-leb _ _ c.if-size-lt-LEAST_SIZE_ORDER.false,
+      le-leb _ _ c.if-size-gt-MOST_SIZE_ORDER.false,
+      lt-leb _ _ c.if-number-lt-LEAST_NUMBER_ORDER.true,
+    )
 
 pub returns-then-number-gt-MOST_NUMBER_ORDER : goal.returns-then-number-gt-MOST_NUMBER_ORDER
 unfolding geometric ◌&◌
-returns-then-number-gt-MOST_NUMBER_ORDER c = 
+returns-then-number-gt-MOST_NUMBER_ORDER c =
     rw (
-  le-leb _ _ c.if-size-lt-LEAST_SIZE_ORDER.false,
-  le-leb _ _ c.if-size-gt-MOST_SIZE_ORDER.false,
-  le-leb _ _ c.if-number-lt-LEAST_NUMBER_ORDER.false,
-  lt-leb _ _ c.if-number-gt-MOST_NUMBER_ORDER.true,
-)
+      le-leb _ _ c.if-size-lt-LEAST_SIZE_ORDER.false,
+      le-leb _ _ c.if-size-gt-MOST_SIZE_ORDER.false,
+      le-leb _ _ c.if-number-lt-LEAST_NUMBER_ORDER.false,
+      lt-leb _ _ c.if-number-gt-MOST_NUMBER_ORDER.true,
+    )
 
 pub returns-then-size-number-gt-MOST_ORDER_SUM : goal.returns-then-size-number-gt-MOST_ORDER_SUM
 unfolding geometric ◌&◌
-returns-then-size-number-gt-MOST_ORDER_SUM c = 
+returns-then-size-number-gt-MOST_ORDER_SUM c =
     rw (
-  le-leb _ _ c.if-size-lt-LEAST_SIZE_ORDER.false,
-  le-leb _ _ c.if-size-gt-MOST_SIZE_ORDER.false,
-  le-leb _ _ c.if-number-lt-LEAST_NUMBER_ORDER.false,
-  le-leb _ _ c.if-number-gt-MOST_NUMBER_ORDER.false,
-  lt-leb _ _ c.if-size-number-gt-MOST_ORDER_SUM.true,
-)
+      le-leb _ _ c.if-size-lt-LEAST_SIZE_ORDER.false,
+      le-leb _ _ c.if-size-gt-MOST_SIZE_ORDER.false,
+      le-leb _ _ c.if-number-lt-LEAST_NUMBER_ORDER.false,
+      le-leb _ _ c.if-number-gt-MOST_NUMBER_ORDER.false,
+      lt-leb _ _ c.if-size-number-gt-MOST_ORDER_SUM.true,
+    )
 
 pub returns : goal.returns
 unfolding geometric ◌&◌
-returns c = 
+returns c =
     rw (
-  le-leb _ _ c.if-size-lt-LEAST_SIZE_ORDER.false,
-  le-leb _ _ c.if-size-gt-MOST_SIZE_ORDER.false,
-  le-leb _ _ c.if-number-lt-LEAST_NUMBER_ORDER.false,
-  le-leb _ _ c.if-number-gt-MOST_NUMBER_ORDER.false,
-  le-leb _ _ c.if-size-number-gt-MOST_ORDER_SUM.false,
-)
+      le-leb _ _ c.if-size-lt-LEAST_SIZE_ORDER.false,
+      le-leb _ _ c.if-size-gt-MOST_SIZE_ORDER.false,
+      le-leb _ _ c.if-number-lt-LEAST_NUMBER_ORDER.false,
+      le-leb _ _ c.if-number-gt-MOST_NUMBER_ORDER.false,
+      le-leb _ _ c.if-size-number-gt-MOST_ORDER_SUM.false,
+    )
     c.is_multiple.ensures

@@ -17,19 +17,19 @@ pub loop-i-init : goal.loop-i-init
 loop-i-init c = (search rules, all_zero _)
 
 pub returns-then-not-position_ok : goal.returns-then-not-position_ok
-returns-then-not-position_ok c = 
+returns-then-not-position_ok c =
     let l = c.loop-i in
     let one = sym c.position_ok.ensures ∙ c.if-not-position_ok.true in
     sym (all_not _ _ l.i c.loop-i-test.true one)
 
 pub loop-i-preserved : goal.loop-i-preserved
-loop-i-preserved c = 
+loop-i-preserved c =
     let l = c.loop-i in
     let one = sym c.position_ok.ensures ∙ c.if-not-position_ok.false in
     (search rules, rw (add-one l.i) (all_more l.i _ l.invariant.1 one))
 
 pub returns : goal.returns
-returns c = 
+returns c =
     let l = c.loop-i in
     let e : l.i ≡ c.args.n = omega arith in
     sym (rw e at l.invariant.1)

@@ -7,7 +7,7 @@ use Rattle.audit_objects.proofs.Asked.{ok_else, count_small}
 use Rattle.audit_objects.proofs.objects.object_ok.Goals as goal
 
 pub returns-in_default : goal.returns-in_default
-returns-in_default c = 
+returns-in_default c =
     let a = c.args in
     let t = c.tag_at-tag.ensures in
     let r = c.in_default.in_default-own.rest in

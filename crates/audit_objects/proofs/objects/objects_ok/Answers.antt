@@ -21,20 +21,20 @@ loop-i-init c = (all_zero _, search rules)
 
 pub returns-then-not-object_ok : goal.returns-then-not-object_ok
 unfolding every_object object_ok
-returns-then-not-object_ok c = 
+returns-then-not-object_ok c =
     let l = c.loop-i in
     let one = sym c.object_ok.ensures ∙ c.if-not-object_ok.true in
     sym (sym (heads_objects c.args.s.now _ c.args.n c.requires.2 (object_ok (read c.args.s.now)) (λ k. refl) (λ k f. refl)) ∙ all_not c.args.n _ l.i c.loop-i-test.true one)
 
 pub loop-i-preserved : goal.loop-i-preserved
-loop-i-preserved c = 
+loop-i-preserved c =
     let l = c.loop-i in
     let one = sym c.object_ok.ensures ∙ c.if-not-object_ok.false in
     (rw (add-one l.i) (all_more l.i _ l.invariant.0 one), search rules)
 
 pub returns : goal.returns
 unfolding every_object object_ok
-returns c = 
+returns c =
     let l = c.loop-i in
     let e : l.i ≡ c.args.n = omega arith in
     sym (sym (heads_objects c.args.s.now _ c.args.n c.requires.2 (object_ok (read c.args.s.now)) (λ k. refl) (λ k f. refl)) ∙ rw e at l.invariant.0)

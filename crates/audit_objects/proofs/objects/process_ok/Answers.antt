@@ -14,7 +14,7 @@ returns-then-tag_at-ne-TABLE_TAG c = rw (ok_process (read c.args.s.now) c.args.k
 
 pub returns : goal.returns
 unfolding runs ◌&◌
-returns c = 
+returns c =
     rw (
       ok_process (read c.args.s.now) c.args.k c.requires,
       ← c.table_named.ensures,

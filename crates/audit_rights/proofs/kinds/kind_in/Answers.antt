@@ -26,7 +26,7 @@ returns-in-5 c = rw c.in-5.is
 
 pub returns-in_default : goal.returns-in_default
 unfolding kind_from
-returns-in_default c = 
+returns-in_default c =
     let r = c.in_default.in_default-own.rest in
     rw (
       ne_eqb _ _ r.0.0.0.0.1,

@@ -10,49 +10,49 @@ returns-then-l-lt-KERNEL_START c = rw (lt-leb _ _ c.if-l-lt-KERNEL_START.true)
 
 pub returns-then-l-ge-KERNEL_END : goal.returns-then-l-ge-KERNEL_END
 unfolding memory_ends ◌&◌
-returns-then-l-ge-KERNEL_END c = 
+returns-then-l-ge-KERNEL_END c =
     rw (
-  le-leb _ _ c.if-l-lt-KERNEL_START.false,
-  le-ltb _ _ c.if-l-ge-KERNEL_END.true,
-)
+      le-leb _ _ c.if-l-lt-KERNEL_START.false,
+      le-ltb _ _ c.if-l-ge-KERNEL_END.true,
+    )
 
 pub returns-then-l-ne0 : goal.returns-then-l-ne0
 unfolding memory_ends ◌&◌
-returns-then-l-ne0 c = 
+returns-then-l-ne0 c =
     rw (
-  le-leb _ _ c.if-l-lt-KERNEL_START.false,
-  lt-ltb _ _ c.if-l-ge-KERNEL_END.false,
-  ne_eqb _ _ c.if-l-ne0.true,
-)
+      le-leb _ _ c.if-l-lt-KERNEL_START.false,
+      lt-ltb _ _ c.if-l-ge-KERNEL_END.false,
+      ne_eqb _ _ c.if-l-ne0.true,
+    )
 
 pub returns-then-h-lt-KERNEL_START : goal.returns-then-h-lt-KERNEL_START
 unfolding memory_ends ◌&◌
-returns-then-h-lt-KERNEL_START c = 
+returns-then-h-lt-KERNEL_START c =
     rw (
-  le-leb _ _ c.if-l-lt-KERNEL_START.false,
-  lt-ltb _ _ c.if-l-ge-KERNEL_END.false,
-  eq-eqb _ _ c.if-l-ne0.false,
-  lt-leb _ _ c.if-h-lt-KERNEL_START.true,
-)
+      le-leb _ _ c.if-l-lt-KERNEL_START.false,
+      lt-ltb _ _ c.if-l-ge-KERNEL_END.false,
+      eq-eqb _ _ c.if-l-ne0.false,
+      lt-leb _ _ c.if-h-lt-KERNEL_START.true,
+    )
 
 pub returns-then-h-gt-KERNEL_END : goal.returns-then-h-gt-KERNEL_END
 unfolding memory_ends ◌&◌
-returns-then-h-gt-KERNEL_END c = 
+returns-then-h-gt-KERNEL_END c =
     rw (
-  le-leb _ _ c.if-l-lt-KERNEL_START.false,
-  lt-ltb _ _ c.if-l-ge-KERNEL_END.false,
-  eq-eqb _ _ c.if-l-ne0.false,
-  le-leb _ _ c.if-h-lt-KERNEL_START.false,
-  lt-leb _ _ c.if-h-gt-KERNEL_END.true,
-)
+      le-leb _ _ c.if-l-lt-KERNEL_START.false,
+      lt-ltb _ _ c.if-l-ge-KERNEL_END.false,
+      eq-eqb _ _ c.if-l-ne0.false,
+      le-leb _ _ c.if-h-lt-KERNEL_START.false,
+      lt-leb _ _ c.if-h-gt-KERNEL_END.true,
+    )
 
 pub returns : goal.returns
 unfolding memory_ends ◌&◌
-returns c = 
+returns c =
     rw (
-  le-leb _ _ c.if-l-lt-KERNEL_START.false,
-  lt-ltb _ _ c.if-l-ge-KERNEL_END.false,
-  eq-eqb _ _ c.if-l-ne0.false,
-  le-leb _ _ c.if-h-lt-KERNEL_START.false,
-  le-leb _ _ c.if-h-gt-KERNEL_END.false,
-)
+      le-leb _ _ c.if-l-lt-KERNEL_START.false,
+      lt-ltb _ _ c.if-l-ge-KERNEL_END.false,
+      eq-eqb _ _ c.if-l-ne0.false,
+      le-leb _ _ c.if-h-lt-KERNEL_START.false,
+      le-leb _ _ c.if-h-gt-KERNEL_END.false,
+    )

@@ -11,7 +11,7 @@ pub returns-in-Table : goal.returns-in-Table
 returns-in-Table c = rw (c.in-Table.is, stands_table (read c.args.s.now) _, c.tag_at.ensures)
 
 pub returns-in-Directory : goal.returns-in-Directory
-returns-in-Directory c = 
+returns-in-Directory c =
     let st = read c.args.s.now in
     rw (
       c.in-Directory.is,

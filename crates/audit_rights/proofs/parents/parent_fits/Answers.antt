@@ -10,14 +10,14 @@ use Rattle.audit_rights.proofs.Compared.{parent_words}
 use Rattle.audit_rights.proofs.parents.parent_fits.Goals as goal
 
 pub returns-then-kind_number-word_in : goal.returns-then-kind_number-word_in
-returns-then-kind_number-word_in c = 
+returns-then-kind_number-word_in c =
     let a = c.args in
     let law = parent_words (bare a.kind a.flags Root) a.s.now a.at in
     let number = c.kind_number.ensures in
     sym (law ∙ and_no _ _ (ne_eqb _ _ (λ x. c.if-kind_number-word_in.true (number ∙ x ∙ sym c.word_in.ensures))))
 
 pub returns-then-not-inside_words : goal.returns-then-not-inside_words
-returns-then-not-inside_words c = 
+returns-then-not-inside_words c =
     let a = c.args in
     let law = parent_words (bare a.kind a.flags Root) a.s.now a.at in
     let same = sym c.kind_number.ensures ∙ c.if-kind_number-word_in.false ∙ c.word_in.ensures in
@@ -26,7 +26,7 @@ returns-then-not-inside_words c =
 
 pub returns : goal.returns
 unfolding subset
-returns c = 
+returns c =
     let a = c.args in
     let law = parent_words (bare a.kind a.flags Root) a.s.now a.at in
     let same = sym c.kind_number.ensures ∙ c.if-kind_number-word_in.false ∙ c.word_in.ensures in

@@ -12,12 +12,12 @@ use Rattle.state.proofs.Look.{place_past}
 use Rattle.audit_rights.proofs.parents.parent_ok.Goals as goal
 
 pub returns-then-p-ge-PLACE_COUNT_U32 : goal.returns-then-p-ge-PLACE_COUNT_U32
-returns-then-p-ge-PLACE_COUNT_U32 c = 
+returns-then-p-ge-PLACE_COUNT_U32 c =
     let a = c.args in
     sym (ap (parent_fits (bare a.kind a.flags Root)) (number_past a.s.now a.p c.if-p-ge-PLACE_COUNT_U32.true))
 
 pub returns-then-n-e : goal.returns-then-n-e
-returns-then-n-e c = 
+returns-then-n-e c =
     let a = c.args in
     let t = c.first_at-t in
     let e = c.entry_of-e in
@@ -26,18 +26,18 @@ returns-then-n-e c =
     sym (ap (parent_fits (bare a.kind a.flags Root)) blank)
 
 pub table_slots-part-requires : goal.table_slots-part-requires
-table_slots-part-requires c = 
+table_slots-part-requires c =
     let a = c.args in
     let small = c.shared_slice_known-1.given in
     rw c.entries_in-n.ensures (entries_byte a.s.now (λ i. omega (arith, small i)) c.first_at-t.result (search rules))
 
 pub parent_fits-requires : goal.parent_fits-requires
-parent_fits-requires c = 
+parent_fits-requires c =
     let e = c.entry_of-e in
     rw c.table_slots-part.ensures (entry_room c.args.s.now c.requires c.first_at-t.result _ e.result c.if-n-e.false (omega (arith, e.ensures)))
 
 pub returns : goal.returns
-returns c = 
+returns c =
     let t = c.first_at-t in
     let e = c.entry_of-e in
     let n = c.entries_in-n.ensures in

@@ -17,13 +17,13 @@ returns-then-flags-all_flags c = rw (c.if-parent-eq0.true, ← c.all_flags.ensur
 
 pub returns-then-parent-eq0 : goal.returns-then-parent-eq0
 unfolding descends_but_chain origin_from ◌&◌
-returns-then-parent-eq0 c = 
+returns-then-parent-eq0 c =
     rw (c.if-parent-eq0.true, ← c.all_flags.ensures, eq-eqb _ _ c.if-flags-all_flags.false)
     c.is_whole.ensures
 
 pub returns : goal.returns
 unfolding descends_but_chain origin_from
-returns c = 
+returns c =
     let a = c.args in
     rw (ne_eqb _ _ c.if-parent-eq0.false)
     (c.parent_ok.ensures ∙ sym (fits_same a.kind a.flags Thawed (Under (a.parent - 1)) (place_numbered (read a.s.now) (a.parent - 1))))

@@ -7,17 +7,17 @@ use Rattle.audit_rights.proofs.Compared.{entry_blank, entry_right}
 use Rattle.audit_rights.proofs.rights.entry_ok.Goals as goal
 
 pub returns-then-number-eq-BLANK : goal.returns-then-number-eq-BLANK
-returns-then-number-eq-BLANK c = 
+returns-then-number-eq-BLANK c =
     let a = c.args in
     sym (entry_blank (read a.s.now) a.p.now a.at (λ m n. omega (arith, c.word_in-number.ensures)))
 
 pub returns-then-number-gt-FUNCTION_KIND : goal.returns-then-number-gt-FUNCTION_KIND
-returns-then-number-gt-FUNCTION_KIND c = 
+returns-then-number-gt-FUNCTION_KIND c =
     let a = c.args in
     sym (entry_blank (read a.s.now) a.p.now a.at (λ m n. omega (arith, c.word_in-number.ensures)))
 
 pub returns : goal.returns
-returns c = 
+returns c =
     let a = c.args in
     let word = c.word_in-number.ensures in
     let small = c.shared_slice_known-2-1.given in

@@ -23,20 +23,20 @@ loop-i-init c = (search rules, all_zero _)
 
 pub returns-then-not-table_ok : goal.returns-then-not-table_ok
 unfolding every_place
-returns-then-not-table_ok c = 
+returns-then-not-table_ok c =
     let l = c.loop-i in
     let one = sym c.table_ok.ensures ∙ c.if-not-table_ok.true in
     sym (sym (heads_objects c.args.s.now _ c.args.n c.requires.2 (λ (k : Slot) (o : Object). all_below (length (places_of o)) (λ e. right (right_but_chain (read c.args.s.now)) (get_or (places_of o) e Blank))) (λ k. all_zero _) (λ k f. all_zero _)) ∙ all_not c.args.n _ l.i c.loop-i-test.true one)
 
 pub loop-i-preserved : goal.loop-i-preserved
-loop-i-preserved c = 
+loop-i-preserved c =
     let l = c.loop-i in
     let one = sym c.table_ok.ensures ∙ c.if-not-table_ok.false in
     (search rules, rw (add-one l.i) (all_more l.i _ l.invariant.1 one))
 
 pub returns : goal.returns
 unfolding every_place
-returns c = 
+returns c =
     let l = c.loop-i in
     let e : l.i ≡ c.args.n = omega arith in
     sym (sym (heads_objects c.args.s.now _ c.args.n c.requires.2 (λ (k : Slot) (o : Object). all_below (length (places_of o)) (λ e. right (right_but_chain (read c.args.s.now)) (get_or (places_of o) e Blank))) (λ k. all_zero _) (λ k f. all_zero _)) ∙ rw e at l.invariant.1)

@@ -12,7 +12,7 @@ use Rattle.audit_entries.proofs.Entries.{entries_few, part_room}
 use Rattle.audit_rights.proofs.rights.table_ok.Goals as goal
 
 pub returns-then-n-eq0 : goal.returns-then-n-eq0
-returns-then-n-eq0 c = 
+returns-then-n-eq0 c =
     let a = c.args in
     let none : entries_in (read a.s.now) a.t ≡ 0 = sym c.entries_in-n.ensures ∙ c.if-n-eq0.true in
     sym (rw none (all_zero _))
@@ -21,12 +21,12 @@ pub table_slots-part-requires : goal.table_slots-part-requires
 table_slots-part-requires c = rw c.entries_in-n.ensures (entries_few (read c.args.s.now) (apart_laid _ c.requires.1) c.args.t)
 
 pub entries_ok-requires : goal.entries_ok-requires
-entries_ok-requires c = 
+entries_ok-requires c =
     let room = part_room c.args.s.now c.requires.0 c.args.t (search rules) (apart_laid _ c.requires.1) in
     (c.requires.0, rw (c.table_slots-part.ensures, c.entries_in-n.ensures) room)
 
 pub returns : goal.returns
-returns c = 
+returns c =
     let asks = right (right_but_chain (read c.args.s.now)) in
     c.entries_ok.ensures
     ∙ rw (c.table_slots-part.ensures, c.entries_in-n.ensures)

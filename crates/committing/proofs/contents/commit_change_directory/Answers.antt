@@ -6,11 +6,11 @@ use Rattle.committing.proofs.Laws.{slot_fits, directory_law}
 use Rattle.committing.proofs.contents.commit_change_directory.Goals as goal
 
 pub store_directory_named-requires : goal.store_directory_named-requires
-store_directory_named-requires c = 
+store_directory_named-requires c =
     let a = c.args in
     omega (arith, slot_fits a.s.now c.requires.well_formed a.process (omega (arith, c.requires.ready)))
 
 pub returns : goal.returns
-returns c = 
+returns c =
     let a = c.args in
     c.store_directory_named.ensures ∙ directory_law a.s.now c.requires.well_formed a.process a.directory c.requires.ready

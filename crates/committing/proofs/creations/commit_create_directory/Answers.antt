@@ -7,13 +7,13 @@ use Rattle.committing.proofs.Laws.{new_room, entry_room, directory_made}
 use Rattle.committing.proofs.creations.commit_create_directory.Goals as goal
 
 pub raise-requires : goal.raise-requires
-raise-requires c = 
+raise-requires c =
     let a = c.args in
     let r = new_room a.s.now c.requires.well_formed a.first (slots_for (header_size + position_size * 2 ^ a.shape.number)) c.requires.ready.site.fits in
     rw c.positions_for-positions.ensures.0 record { notes_inside = r.0; slots_inside = r.1; some_slots = omega arith; entry_inside = entry_room a.s.now c.requires.well_formed a.at c.requires.ready.site.entry }
 
 pub returns : goal.returns
-returns c = 
+returns c =
     let a = c.args in
     rw (c.raise.ensures, c.mark.ensures, c.positions_for-positions.ensures.0)
     (directory_made a.s.now c.requires.well_formed a.at a.first a.shape c.requires.ready)

@@ -8,7 +8,7 @@ use borrow.Author.Rules.{rules}
 use Rattle.committing.proofs.creations.positions_for.Goals as goal
 
 pub returns : goal.returns
-returns c = 
+returns c =
     let k = c.args.k in
     let most : 2 ^ k ≤ 256 = pow_mono {i = k} {j = 8} c.requires in
     let fits : 2 ^ k < 4294967296 = omega arith in

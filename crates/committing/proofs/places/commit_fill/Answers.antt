@@ -6,11 +6,11 @@ use Rattle.committing.specs.Names.{Holds}
 use Rattle.committing.proofs.places.commit_fill.Goals as goal
 
 pub store_place-requires : goal.store_place-requires
-store_place-requires c = 
+store_place-requires c =
     let a = c.args in
     entry_room a.s.now c.requires.well_formed a.at c.requires.ready
 
 pub returns : goal.returns
-returns c = 
+returns c =
     let a = c.args in
     c.store_place.ensures ∙ place_law a.s.now c.requires.well_formed a.at (Holds a.right) c.requires.ready

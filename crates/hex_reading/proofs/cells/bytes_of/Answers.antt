@@ -20,7 +20,7 @@ pub bounds-state-i : goal.bounds-state-i
 bounds-state-i c = omega (arith, c.requires.1)
 
 pub loop-i-preserved : goal.loop-i-preserved
-loop-i-preserved c = 
+loop-i-preserved c =
     let a = c.args in
     let i = c.loop-i.i in
     let b = c.byte_of in
@@ -35,7 +35,7 @@ pub shape_of-state : goal.shape_of-state
 shape_of-state c = omega arith
 
 pub returns : goal.returns
-returns c = 
+returns c =
     let a = c.args in
     let n = length_given a.cells.now in
     c.loop-i.invariant.2 ∙ front_done (given a.cells.now) a.state.now c.loop-i.i (omega (arith, c.requires.0)) (omega (arith, c.requires.1))

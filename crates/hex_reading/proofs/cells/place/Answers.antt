@@ -19,7 +19,7 @@ pub byte_in-requires : goal.byte_in-requires
 byte_in-requires c = c.requires.0
 
 pub loop-i-preserved : goal.loop-i-preserved
-loop-i-preserved c = 
+loop-i-preserved c =
     let a = c.args in
     let i = c.loop-i.i in
     let r = spelled_by a.body.now in
@@ -30,7 +30,7 @@ loop-i-preserved c =
     )
 
 pub returns : goal.returns
-returns c = 
+returns c =
     let a = c.args in
     let e : c.loop-i.i ≡ a.n = omega arith in
     c.loop-i.invariant.1 ∙ ap (λ (k : ℕ). splice a.at (filled (take k (drop 4 (spelled_by a.body.now)))) a.cells.now) e

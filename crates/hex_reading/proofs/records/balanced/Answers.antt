@@ -16,13 +16,13 @@ unfolding sum_of
 loop-k-init c = (omega arith, refl)
 
 pub loop-k-preserved : goal.loop-k-preserved
-loop-k-preserved c = 
+loop-k-preserved c =
     let l = c.args.body.now in
     let r = spelled_by l in
     (omega arith, omega (arith, sum_more r c.loop-k.k (omega (arith, spelled_length l c.requires)), c.byte_in.ensures, c.loop-k.invariant.1))
 
 pub returns : goal.returns
-returns c = 
+returns c =
     let l = c.args.body.now in
     let r = spelled_by l in
     rw (c.loop-k.invariant.1, take_all c.loop-k.k r (omega (arith, spelled_length l c.requires)))

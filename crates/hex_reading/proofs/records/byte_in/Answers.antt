@@ -9,7 +9,7 @@ use borrow.Author.Rules.{rules}
 use Rattle.hex_reading.proofs.records.byte_in.Goals as goal
 
 pub returns-then-body-k : goal.returns-then-body-k
-returns-then-body-k c = 
+returns-then-body-k c =
     let l = c.args.body.now in
     sym (get_or-eq_default (spelled_by l) 0 (omega (arith, spelled_length l c.requires, c.if-body-k.true)))
 
@@ -17,20 +17,20 @@ pub bounds-body-k-2 : goal.bounds-body-k-2
 bounds-body-k-2 c = omega (arith, spelled_odd c.args.body.now c.requires)
 
 pub overflow_mul-result : goal.overflow_mul-result
-overflow_mul-result c = 
+overflow_mul-result c =
     let l = c.args.body.now in
     let k = c.args.k in
     let o = spelled_odd l c.requires in
     omega (arith, spelled_digit l c.requires (2 * k + 1) (omega arith) (omega arith))
 
 pub overflow_add-result : goal.overflow_add-result
-overflow_add-result c = 
+overflow_add-result c =
     let l = c.args.body.now in
     let k = c.args.k in
     let o = spelled_odd l c.requires in
     omega (arith, spelled_digit l c.requires (2 * k + 1) (omega arith) (omega arith), spelled_digit l c.requires (2 * k + 2) (omega arith) (omega arith))
 
 pub returns : goal.returns
-returns c = 
+returns c =
     let l = c.args.body.now in
     rw (c.digit-a.ensures, c.digit-b.ensures) (sym (spelled_at l c.requires c.args.k c.if-body-k.false))

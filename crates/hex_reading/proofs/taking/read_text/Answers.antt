@@ -18,13 +18,13 @@ pub slice_bounds-take_line-count : goal.slice_bounds-take_line-count
 slice_bounds-take_line-count c = let t = c.args.text.now in omega (arith, c.line_end-e.ensures)
 
 pub slice_bounds-take_line-start : goal.slice_bounds-take_line-start
-slice_bounds-take_line-start c = 
+slice_bounds-take_line-start c =
     let t = c.args.text.now in
     let i = c.loop-at.at in
     omega (arith, c.line_end-e.ensures, line_fits (drop i t), length-drop i t)
 
 pub slice_bounds-take_line-end : goal.slice_bounds-take_line-end
-slice_bounds-take_line-end c = 
+slice_bounds-take_line-end c =
     let t = c.args.text.now in
     let i = c.loop-at.at in
     omega (arith, c.line_end-e.ensures, line_fits (drop i t), length-drop i t)
@@ -33,13 +33,13 @@ pub take_line-t-requires : goal.take_line-t-requires
 take_line-t-requires c = c.loop-at.invariant.1
 
 pub loop-at-smaller : goal.loop-at-smaller
-loop-at-smaller c = 
+loop-at-smaller c =
     let t = c.args.text.now in
     let i = c.loop-at.at in
     omega (arith, c.line_end-e.ensures, line_ahead t i c.loop-at-test.true, line_fits (drop i t), length-drop i t)
 
 pub loop-at-preserved : goal.loop-at-preserved
-loop-at-preserved c = 
+loop-at-preserved c =
     let t = c.args.text.now in
     let l = c.loop-at in
     let e = c.line_end-e in
@@ -55,7 +55,7 @@ loop-at-preserved c =
     )
 
 pub returns-in-Over : goal.returns-in-Over
-returns-in-Over c = 
+returns-in-Over c =
     let t = c.args.text.now in
     let l = c.loop-at in
     let e = c.line_end-e in
@@ -68,7 +68,7 @@ returns-in-Over c =
     }
 
 pub returns-in-Faulty : goal.returns-in-Faulty
-returns-in-Faulty c = 
+returns-in-Faulty c =
     let t = c.args.text.now in
     let l = c.loop-at in
     let e = c.line_end-e in
@@ -81,7 +81,7 @@ returns-in-Faulty c =
     }
 
 pub returns : goal.returns
-returns c = 
+returns c =
     let l = c.loop-at in
     let t = c.args.text.now in
     let g : Given = record { cells = l.cells; upper = l.upper } in record {

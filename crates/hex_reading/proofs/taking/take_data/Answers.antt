@@ -12,7 +12,7 @@ use borrow.Author.Rules.{rules}
 use Rattle.hex_reading.proofs.taking.take_data.Goals as goal
 
 pub returns-then-upper-ne-STATE_UPPER : goal.returns-then-upper-ne-STATE_UPPER
-returns-then-upper-ne-STATE_UPPER c = 
+returns-then-upper-ne-STATE_UPPER c =
     let a = c.args in
     let p = c.requires in
     let b = a.body.now in record {
@@ -21,13 +21,13 @@ returns-then-upper-ne-STATE_UPPER c =
     }
 
 pub overflow_add-at : goal.overflow_add-at
-overflow_add-at c = 
+overflow_add-at c =
     let b = c.args.body.now in
     let p = c.requires.0 in
     omega (arith, c.address_in-at.ensures, c.length_in-n.ensures, spelled_byte b p 0, spelled_byte b p 1, spelled_byte b p 2)
 
 pub returns-then-at-n-gt-STATE_LENGTH : goal.returns-then-at-n-gt-STATE_LENGTH
-returns-then-at-n-gt-STATE_LENGTH c = 
+returns-then-at-n-gt-STATE_LENGTH c =
     let a = c.args in
     let p = c.requires in record {
       value = sym (data_beyond (spelled_by a.body.now) p.1 a.cells.now p.2 a.upper c.if-upper-ne-STATE_UPPER.false (omega (arith, c.address_in-at.ensures, c.length_in-n.ensures, c.if-at-n-gt-STATE_LENGTH.true)));
@@ -35,7 +35,7 @@ returns-then-at-n-gt-STATE_LENGTH c =
     }
 
 pub returns-then-not-vacant : goal.returns-then-not-vacant
-returns-then-not-vacant c = 
+returns-then-not-vacant c =
     let a = c.args in
     let p = c.requires in record {
       value = sym (data_twice (spelled_by a.body.now) p.1 a.cells.now p.2 a.upper c.if-upper-ne-STATE_UPPER.false (omega (arith, c.address_in-at.ensures, c.length_in-n.ensures, c.if-at-n-gt-STATE_LENGTH.false))
@@ -44,13 +44,13 @@ returns-then-not-vacant c =
     }
 
 pub place-requires : goal.place-requires
-place-requires c = 
+place-requires c =
     let p = c.requires in
     (p.0, p.2, omega (arith, c.if-at-n-gt-STATE_LENGTH.false), omega (arith, c.length_in-n.ensures, whole_length (spelled_by c.args.body.now) p.1))
 
 pub returns : goal.returns
 unfolding data_in
-returns c = 
+returns c =
     let a = c.args in
     let p = c.requires in record {
       value = rw (c.place.ensures, c.length_in-n.ensures, c.address_in-at.ensures)

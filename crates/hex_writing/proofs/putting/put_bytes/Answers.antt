@@ -19,7 +19,7 @@ pub put_byte-requires : goal.put_byte-requires
 put_byte-requires c = omega arith
 
 pub loop-i-preserved : goal.loop-i-preserved
-loop-i-preserved c = 
+loop-i-preserved c =
     let a = c.args in
     let l = c.loop-i in
     let bs = a.bytes.now in (
@@ -34,6 +34,6 @@ pub shape_of-part : goal.shape_of-part
 shape_of-part c = omega arith
 
 pub returns : goal.returns
-returns c = 
+returns c =
     let a = c.args in
     c.loop-i.invariant.2 ∙ ap (λ (x : List ℕ). splice a.at (spelled true x) a.part.now) (take_all c.loop-i.i a.bytes.now c.loop-i-test.false)

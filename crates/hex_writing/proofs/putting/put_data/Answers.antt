@@ -20,7 +20,7 @@ pub slice_bounds-put_line-end : goal.slice_bounds-put_line-end
 slice_bounds-put_line-end c = omega (arith, c.requires.0)
 
 pub put_line-requires : goal.put_line-requires
-put_line-requires c = 
+put_line-requires c =
     let k = c.loop-k.k in
     let s = c.args.s.now in
     let n = length-take (piece_length * k + piece_length - piece_length * k) (drop (piece_length * k) s) in
@@ -28,7 +28,7 @@ put_line-requires c =
     (omega (arith, c.requires.0, c.requires.1), omega (arith, c.requires.0), omega arith)
 
 pub loop-k-preserved : goal.loop-k-preserved
-loop-k-preserved c = 
+loop-k-preserved c =
     let a = c.args in
     let l = c.loop-k in
     let k = l.k in
@@ -45,7 +45,7 @@ pub shape_of-text : goal.shape_of-text
 shape_of-text c = omega arith
 
 pub returns : goal.returns
-returns c = 
+returns c =
     let a = c.args in
     let e : c.loop-k.k ≡ piece_count = omega arith in
     c.loop-k.invariant.2 ∙ ap (λ (n : ℕ). splice upper_line (data_lines true false 0 (sixteens n a.s.now)) a.text.now) e

@@ -11,6 +11,6 @@ use borrow.Author.Rules.{rules}
 use Rattle.hex_writing.proofs.putting.put_line.Goals as goal
 
 pub returns : goal.returns
-returns c = 
+returns c =
     let a = c.args in
     lent a.text.now _ (line_of true false (record_of a.t a.address a.bytes.now)) a.at (end_line + 2 * length a.bytes.now) c.put_record.ensures (length_line true a.t a.address a.bytes.now)

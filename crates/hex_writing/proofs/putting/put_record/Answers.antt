@@ -21,6 +21,6 @@ pub shape_of-part : goal.shape_of-part
 shape_of-part c = simp length-set (omega (arith, c.requires.0, length-set c.args.part.now 0 58))
 
 pub returns : goal.returns
-returns c = 
+returns c =
     let a = c.args in
     rw (c.put_byte.ensures, c.put_bytes-2.ensures, c.put_bytes.ensures, c.check_byte-check.ensures) (line_put a.part.now a.bytes.now a.t a.address c.requires.0)

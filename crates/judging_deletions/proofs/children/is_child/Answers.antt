@@ -11,18 +11,18 @@ use Rattle.judging_deletions.proofs.ChildWords.{child_words, under_no, under_yes
 use Rattle.judging_deletions.proofs.children.is_child.Goals as goal
 
 pub returns-then-word_at-n : goal.returns-then-word_at-n
-returns-then-word_at-n c = 
+returns-then-word_at-n c =
     let a = c.args in
     sym (child_words a.part.now (entry_size * a.e) a.n ∙ and_no _ _ (under_no _ a.n (λ z. c.if-word_at-n.true (c.word_at.ensures ∙ z))))
 
 pub returns-then-kind-eq-BLANK : goal.returns-then-kind-eq-BLANK
-returns-then-kind-eq-BLANK c = 
+returns-then-kind-eq-BLANK c =
     let a = c.args in
     let w = c.word_at.ensures in let k = sym c.word_at-kind.ensures ∙ c.if-kind-eq-BLANK.true in
     sym (child_words a.part.now (entry_size * a.e) a.n ∙ and_yes _ _ (under_yes _ a.n (sym w ∙ c.if-word_at-n.false)) ∙ and_no _ _ (rw k))
 
 pub returns : goal.returns
-returns c = 
+returns c =
     let a = c.args in
     let w = c.word_at.ensures in let k = c.word_at-kind.ensures in
     ap (λ (x : ℕ). leb x 6) k

@@ -7,14 +7,14 @@ use borrow.Author.Rules.{rules}
 use Rattle.judging_directories.proofs.geometry.is_multiple.Goals as goal
 
 pub nonzero_rem-result : goal.nonzero_rem-result
-nonzero_rem-result c = 
+nonzero_rem-result c =
     let k = c.args.k in
     let most : 2 ^ k ≤ 4294967296 = pow_mono {i = k} {j = 32} c.requires in
     let fits : 2 ^ k < 18446744073709551616 = omega arith in
     rw (one-mul, mod-eq_of_lt fits) (omega (arith, pow_pos k))
 
 pub returns : goal.returns
-returns c = 
+returns c =
     let k = c.args.k in
     let most : 2 ^ k ≤ 4294967296 = pow_mono {i = k} {j = 32} c.requires in
     let fits : 2 ^ k < 18446744073709551616 = omega arith in

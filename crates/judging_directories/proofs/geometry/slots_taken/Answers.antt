@@ -8,28 +8,28 @@ use borrow.Author.Rules.{rules}
 use Rattle.judging_directories.proofs.geometry.slots_taken.Goals as goal
 
 pub overflow_mul-result : goal.overflow_mul-result
-overflow_mul-result c = 
+overflow_mul-result c =
     let k = c.args.k in
     let most : 2 ^ k ≤ 256 = pow_mono {i = k} {j = 8} c.requires in
     let fits : 2 ^ k < 4294967296 = omega arith in
     rw (one-mul, mod-eq_of_lt fits) (omega arith)
 
 pub overflow_add-result : goal.overflow_add-result
-overflow_add-result c = 
+overflow_add-result c =
     let k = c.args.k in
     let most : 2 ^ k ≤ 256 = pow_mono {i = k} {j = 8} c.requires in
     let fits : 2 ^ k < 4294967296 = omega arith in
     rw (one-mul, mod-eq_of_lt fits) (omega arith)
 
 pub overflow_add-result-2 : goal.overflow_add-result-2
-overflow_add-result-2 c = 
+overflow_add-result-2 c =
     let k = c.args.k in
     let most : 2 ^ k ≤ 256 = pow_mono {i = k} {j = 8} c.requires in
     let fits : 2 ^ k < 4294967296 = omega arith in
     rw (one-mul, mod-eq_of_lt fits) (omega arith)
 
 pub returns : goal.returns
-returns c = 
+returns c =
     let k = c.args.k in
     let most : 2 ^ k ≤ 256 = pow_mono {i = k} {j = 8} c.requires in
     let fits : 2 ^ k < 4294967296 = omega arith in

@@ -6,12 +6,12 @@ use Rattle.judging_numbers.proofs.callers.caller_table.Goals as goal
 
 pub returns-in_default : goal.returns-in_default
 unfolding ◌>>=◌
-returns-in_default c = 
+returns-in_default c =
     let a = c.args in
     rw (c.why_slot.ensures, caller_steps a.s.now a.caller, ← c.caller_slot-a.ensures, c.in_default.is)
 
 pub returns : goal.returns
 unfolding ◌>>=◌
-returns c = 
+returns c =
     let a = c.args in
     rw (caller_steps a.s.now a.caller, ← c.caller_slot-a.ensures, c.in-Found.is) c.table_of_caller.ensures

@@ -25,7 +25,7 @@ unfolding map_addressed ◌>>=◌ ◌>>◌ need ◌&◌
 returns-then-not-is_index c = rw (← c.d0-to.ensures, ← c.d0-from.ensures, ← c.d0-index.ensures, ← c.shape_at-g.ensures, ← c.shape_at-h.ensures, le-leb _ _ c.if-h-g.false, ← c.positions_in.ensures, lt-ltb _ _ c.if-positions_in-to.false, ← c.positions_in-2.ensures, lt-ltb _ _ c.if-positions_in-from.false, ← c.is_index.ensures, c.if-not-is_index.true, size_at)
 
 pub map_in_range-requires : goal.map_in_range-requires
-map_in_range-requires c = 
+map_in_range-requires c =
     rw (← c.d0-index.ensures, ← c.shape_at-g.ensures, ← c.shape_at-h.ensures, size_at)
     (c.requires, c.if-h-g.false, ltb-true _ _ (sym c.is_index.ensures ∙ c.if-not-is_index.false))
 

@@ -34,7 +34,7 @@ unfolding map_in_range ◌>>=◌ ◌>>◌ need subset
 returns-then-flags-f c = rw (← c.d0-to.ensures, ← c.d0-from.ensures, ← c.d1-flags.ensures, ← c.in_span.ensures, c.if-not-in_span.false, ← c.in_span-2.ensures, c.if-not-in_span-2.false, ← c.position_at.ensures, ← c.as_page-a.ensures, c.in-Found.is, ← c.position_at-2.ensures, ← c.is_empty.ensures, c.if-not-is_empty.false, ne_eqb _ _ c.if-flags-f.true)
 
 pub frame_in-frame-requires : goal.frame_in-frame-requires
-frame_in-frame-requires c = 
+frame_in-frame-requires c =
     let a = c.args in let p = c.requires in
     let page = sym (ap (as_page PgtHw) c.position_at.ensures) ∙ sym c.as_page-a.ensures ∙ ap told_frame c.in-Found.is in
     rw (c.d0-index.ensures, c.shape_at-g.ensures) (frame_fits (read a.s.now) p.0 a.d.object a.x.object c.d0-from.result (D0 a.w.p3) PgtHw _ page p.1 p.2)

@@ -7,21 +7,21 @@ use borrow.Author.Rules.{rules}
 use Rattle.judging_pages.proofs.pages.frame_in.Goals as goal
 
 pub overflow_mul-result : goal.overflow_mul-result
-overflow_mul-result c = 
+overflow_mul-result c =
     let k = c.args.order in
     let most : 2 ^ k ≤ 2147483648 = pow_mono {i = k} {j = 31} c.requires.0 in
     let fits : 2 ^ k < 4294967296 = omega arith in
     rw (one-mul, mod-eq_of_lt fits) (omega (arith, c.requires.1))
 
 pub overflow_add-result : goal.overflow_add-result
-overflow_add-result c = 
+overflow_add-result c =
     let k = c.args.order in
     let most : 2 ^ k ≤ 2147483648 = pow_mono {i = k} {j = 31} c.requires.0 in
     let fits : 2 ^ k < 4294967296 = omega arith in
     rw (one-mul, mod-eq_of_lt fits) (omega (arith, c.requires.1))
 
 pub returns : goal.returns
-returns c = 
+returns c =
     let k = c.args.order in
     let most : 2 ^ k ≤ 2147483648 = pow_mono {i = k} {j = 31} c.requires.0 in
     let fits : 2 ^ k < 4294967296 = omega arith in

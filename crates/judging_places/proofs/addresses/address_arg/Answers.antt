@@ -11,13 +11,13 @@ unfolding address_arg ◌>>=◌ ◌>>◌ need
 returns-then-not-lies_in c = rw (← c.lies_in.ensures, c.if-not-lies_in.true)
 
 pub overflow_sub-k : goal.overflow_sub-k
-overflow_sub-k c = 
+overflow_sub-k c =
     let a = c.args in
     let h = lies_open a.m a.a a.n (sym c.lies_in.ensures ∙ c.if-not-lies_in.false) in
     omega arith
 
 pub overflow_cast-k : goal.overflow_cast-k
-overflow_cast-k c = 
+overflow_cast-k c =
     let a = c.args in
     let h = lies_open a.m a.a a.n (sym c.lies_in.ensures ∙ c.if-not-lies_in.false) in
     omega arith

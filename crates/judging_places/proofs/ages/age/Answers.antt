@@ -8,7 +8,7 @@ use Rattle.judging_places.proofs.ages.age.Goals as goal
 
 pub returns : goal.returns
 unfolding age
-returns c = 
+returns c =
     let a = c.args in
     let h = rw (c.stamp_of.ensures, c.clock.ensures) at c.wrapping_sub_u32.ensures.value in
     age_wrapping (read a.s.now) (stamp_of a.f) c.wrapping_sub_u32.result (rw (← c.stamp_of.ensures) (search rules)) (search rules) h

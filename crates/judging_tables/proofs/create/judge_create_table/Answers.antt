@@ -42,7 +42,7 @@ pub overflow_add-needed : goal.overflow_add-needed
 overflow_add-needed c = let h = entries_between c.count_in_word-n.result.0 (sym c.entries_ok.ensures ∙ c.if-not-entries_ok.false) in omega arith
 
 pub address_arg-d-requires : goal.address_arg-d-requires
-address_arg-d-requires c = 
+address_arg-d-requires c =
     let h = entries_between c.count_in_word-n.result.0 (sym c.entries_ok.ensures ∙ c.if-not-entries_ok.false) in
     record { kernel_memory = memory_found _ _ _ _ c.requires c.memory_arg-b.ensures c.in-Found-b.is; few_slots = (omega arith, omega arith) }
 

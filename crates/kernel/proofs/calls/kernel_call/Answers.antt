@@ -18,7 +18,7 @@ pub judge-p-requires : goal.judge-p-requires
 judge-p-requires c = (sound_open c.args.s.now (sym c.well_formed-2.ensures ∙ c.if-not-well_formed.false)).formed
 
 pub carry_out-requires : goal.carry_out-requires
-carry_out-requires c = 
+carry_out-requires c =
     let a = c.args in
     let e : sound a.s.now ≡ true = sym c.well_formed-2.ensures ∙ c.if-not-well_formed.false in
     let ready = ready_plan a.s.now a.caller (four a.w0 a.w1 a.w2 a.w3) c.in-Do.a e (sym c.judge-p.ensures ∙ ap told_plan c.in-Do.is) in record {
@@ -27,7 +27,7 @@ carry_out-requires c =
     }
 
 pub answer_of-requires : goal.answer_of-requires
-answer_of-requires c = 
+answer_of-requires c =
     let a = c.args in
     let e : sound a.s.now ≡ true = sym c.well_formed-2.ensures ∙ c.if-not-well_formed.false in
     let ready = ready_plan a.s.now a.caller (four a.w0 a.w1 a.w2 a.w3) c.in-Do.a e (sym c.judge-p.ensures ∙ ap told_plan c.in-Do.is) in
@@ -35,14 +35,14 @@ answer_of-requires c =
 
 pub returns-in-Do : goal.returns-in-Do
 unfolding call_outcome
-returns-in-Do c = 
+returns-in-Do c =
     let a = c.args in
     let e : sound a.s.now ≡ true = sym c.well_formed-2.ensures ∙ c.if-not-well_formed.false in
     rw (to_z-of_z w32 c.answer_of.result (record { sfits = c.answer_of.type_inv }), c.answer_of.ensures, c.carry_out.ensures, e, ← c.judge-p.ensures, c.in-Do.is)
 
 pub returns-in-Refused : goal.returns-in-Refused
 unfolding call_outcome
-returns-in-Refused c = 
+returns-in-Refused c =
     let a = c.args in
     let e : sound a.s.now ≡ true = sym c.well_formed-2.ensures ∙ c.if-not-well_formed.false in
     rw (to_z-of_z w32 c.refusal_number-in-Refused.result (record { sfits = c.refusal_number-in-Refused.type_inv }), c.refusal_number-in-Refused.ensures, e, ← c.judge-p.ensures, c.in-Refused.is)

@@ -12,7 +12,7 @@ returns-then-words-lt2 c = rw (lt-leb 2 _ c.if-words-lt2.true)
 
 pub returns-in-Words : goal.returns-in-Words
 unfolding pack_result
-returns-in-Words c = 
+returns-in-Words c =
     let room = c.if-words-lt2.false in
     rw (le-leb 2 _ room, ← c.pack_grant-p.ensures, c.in-Words.is, two_in_front c.args.words.now _ _ room)
 

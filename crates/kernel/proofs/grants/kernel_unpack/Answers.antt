@@ -14,6 +14,6 @@ bounds-words-1 c = omega (arith, length-set c.args.words.now 0 c.unpack_grant-g.
 
 pub returns : goal.returns
 unfolding unpack_result
-returns c = 
+returns c =
     let room = c.if-words-lt3.false in
     rw (le-leb 3 _ room, ← c.unpack_grant-g.ensures, three_in_front c.args.words.now _ _ _ room)

@@ -22,7 +22,7 @@ loop-i-init c = (refl, refl, search rules, search rules, search rules)
 
 pub loop-i-preserved : goal.loop-i-preserved
 unfolding event_at
-loop-i-preserved c = 
+loop-i-preserved c =
     let a = c.args in
     let l = c.loop-i in
     let b₀ : List ℕ = a.s.now in
@@ -44,7 +44,7 @@ loop-i-preserved c =
 
 pub returns : goal.returns
 unfolding run_result
-returns c = 
+returns c =
     let a = c.args in
     let l = c.loop-i in
     let e : l.i ≡ length a.script.now / 5 = omega arith in

@@ -27,8 +27,7 @@ pub returns-then-answer-lt0 : goal.returns-then-answer-lt0
 returns-then-answer-lt0 c = none _ c.if-answer-lt0.true ∙ ap count_of (to_z-of_z w32 c.args.answer c.ranges.answer)
 
 pub overflow_cast-result : goal.overflow_cast-result
-overflow_cast-result c = 
-    (
+overflow_cast-result c = (
   yes_non_neg {z = to_z w32 (of_z w32 c.args.answer)} (lt_z_no (subst (λ (b : Bool). T (not b)) (sym c.if-answer-lt0.false) tt)),
   subst (λ (z : ℤ). Fits w32 (nat_abs z)) (sym (to_z-of_z w32 c.args.answer c.ranges.answer)) (record { fits = lt_of_le_of_lt (nat_abs-le c.args.answer c.ranges.answer.sfits) (lit< tt) }),
 )

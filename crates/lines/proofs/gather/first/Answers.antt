@@ -11,7 +11,7 @@ pub slice_bounds-result-end : goal.slice_bounds-result-end
 slice_bounds-result-end c = sym (length-take-le _ _ (omega arith))
 
 pub returns : goal.returns
-returns c = 
+returns c =
     let a = c.args in
     let all : length a.text.now ≤ a.n = omega arith in
     sym (take_all a.n a.text.now all)

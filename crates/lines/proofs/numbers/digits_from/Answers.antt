@@ -17,23 +17,23 @@ pub loop-i-init : goal.loop-i-init
 loop-i-init c = let a = c.args in (omega arith, some_digits a.base a.text.now a.from c.if-text-from.false)
 
 pub returns-then-base-d : goal.returns-then-base-d
-returns-then-base-d c = 
+returns-then-base-d c =
     let a = c.args in
     let l = c.loop-i in
     sym (l.invariant.1 ∙ digits_bad a.base l.v a.text.now l.i c.loop-i-test.true (rw c.digit-d.ensures at c.if-base-d.true))
 
 pub overflow_mul-v : goal.overflow_mul-v
-overflow_mul-v c = 
+overflow_mul-v c =
     let l = c.loop-i in
     omega (arith, mul-le-mul l.invariant.0 c.requires.1)
 
 pub overflow_add-v : goal.overflow_add-v
-overflow_add-v c = 
+overflow_add-v c =
     let l = c.loop-i in
     omega (arith, mul-le-mul l.invariant.0 c.requires.1)
 
 pub loop-i-preserved : goal.loop-i-preserved
-loop-i-preserved c = 
+loop-i-preserved c =
     let a = c.args in
     let l = c.loop-i in
     let d = c.digit-d in (
@@ -45,14 +45,14 @@ loop-i-preserved c =
 
 pub returns-then-v-le4294967295 : goal.returns-then-v-le4294967295
 unfolding sized
-returns-then-v-le4294967295 c = 
+returns-then-v-le4294967295 c =
     let a = c.args in
     let l = c.loop-i in
     sym (l.invariant.1 ∙ digits_end a.base l.v a.text.now l.i c.loop-i-test.false ∙ rw (le-leb _ _ c.if-v-le4294967295.true))
 
 pub returns-else-v-le4294967295 : goal.returns-else-v-le4294967295
 unfolding sized
-returns-else-v-le4294967295 c = 
+returns-else-v-le4294967295 c =
     let a = c.args in
     let l = c.loop-i in
     sym (l.invariant.1 ∙ digits_end a.base l.v a.text.now l.i c.loop-i-test.false ∙ rw (lt-leb _ _ c.if-v-le4294967295.false))

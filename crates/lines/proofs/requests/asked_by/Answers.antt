@@ -27,18 +27,18 @@ returns-then-is-5 c = rw (c.tick_in.ensures, ← c.is.ensures, c.if-is.false, �
 
 pub returns-then-b-lt48 : goal.returns-then-b-lt48
 unfolding asked_by
-returns-then-b-lt48 c = 
+returns-then-b-lt48 c =
     let b = c.byte_at-b in
     rw (← c.is.ensures, c.if-is.false, ← c.is-2.ensures, c.if-is-2.false, ← c.is-3.ensures, c.if-is-3.false, ← c.is-4.ensures, c.if-is-4.false, ← c.is-5.ensures, c.if-is-5.false, ← b.ensures, below 48 57 b.result (omega arith))
 
 pub returns-then-b-gt57 : goal.returns-then-b-gt57
 unfolding asked_by
-returns-then-b-gt57 c = 
+returns-then-b-gt57 c =
     let b = c.byte_at-b in
     rw (← c.is.ensures, c.if-is.false, ← c.is-2.ensures, c.if-is-2.false, ← c.is-3.ensures, c.if-is-3.false, ← c.is-4.ensures, c.if-is-4.false, ← c.is-5.ensures, c.if-is-5.false, ← b.ensures, above 48 57 b.result (omega arith))
 
 pub returns : goal.returns
 unfolding asked_by
-returns c = 
+returns c =
     let b = c.byte_at-b in
     rw (c.call_in.ensures, ← c.is.ensures, c.if-is.false, ← c.is-2.ensures, c.if-is-2.false, ← c.is-3.ensures, c.if-is-3.false, ← c.is-4.ensures, c.if-is-4.false, ← c.is-5.ensures, c.if-is-5.false, ← b.ensures, inside 48 57 b.result (omega arith) (omega arith))

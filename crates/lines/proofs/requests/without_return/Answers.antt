@@ -11,7 +11,7 @@ use Rattle.lines.proofs.requests.without_return.Goals as goal
 
 pub returns-then-line-eq0 : goal.returns-then-line-eq0
 unfolding unreturned
-returns-then-line-eq0 c = 
+returns-then-line-eq0 c =
     let l = c.args.line.now in
     let none : length l ≤ length l - 1 = omega arith in
     rw (get_or-eq_default l 0 none)

@@ -12,7 +12,7 @@ pub loop-i-init : goal.loop-i-init
 loop-i-init c = refl
 
 pub returns-then-not-passes : goal.returns-then-not-passes
-returns-then-not-passes c = 
+returns-then-not-passes c =
     let a = c.args in
     let l = c.loop-i in
     let t = c.passes in
@@ -20,7 +20,7 @@ returns-then-not-passes c =
     (sym t.ensures ∙ c.if-not-passes.true))
 
 pub loop-i-preserved : goal.loop-i-preserved
-loop-i-preserved c = 
+loop-i-preserved c =
     let a = c.args in
     let l = c.loop-i in
     let t = c.passes in
@@ -28,7 +28,7 @@ loop-i-preserved c =
     (sym t.ensures ∙ c.if-not-passes.false)
 
 pub returns : goal.returns
-returns c = 
+returns c =
     let a = c.args in
     let l = c.loop-i in
     sym (l.invariant ∙ run_past (passing a.blanks) a.line.now l.i c.loop-i-test.false)

@@ -7,7 +7,7 @@ use Rattle.lines.specs.Spans.{blank, solid}
 use Rattle.lines.proofs.spans.word_after.Goals as goal
 
 pub returns : goal.returns
-returns c = 
+returns c =
     let a = c.args in
     let f = c.past_run-from in
     let t = c.past_run-to in

@@ -13,7 +13,7 @@ pub loop-left-init : goal.loop-left-init
 loop-left-init c = (search rules, refl)
 
 pub loop-left-preserved : goal.loop-left-preserved
-loop-left-preserved c = 
+loop-left-preserved c =
     let a = c.args in
     let l = c.loop-left in
     let s = c.word_after-s in
@@ -24,7 +24,7 @@ loop-left-preserved c =
     )
 
 pub returns : goal.returns
-returns c = 
+returns c =
     let a = c.args in
     let l = c.loop-left in
     let s = c.word_after-s-2 in

@@ -12,21 +12,21 @@ pub loop-at-init : goal.loop-at-init
 loop-at-init c = (search rules, search rules, omega arith)
 
 pub returns-then-line-from : goal.returns-then-line-from
-returns-then-line-from c = 
+returns-then-line-from c =
     let a = c.args in
     let l = c.loop-at in
     let s = c.word_after-s in
     omega (arith, ap length (next_none a.line.now l.at l.invariant.0 s.result s.ensures.value c.if-line-from.true))
 
 pub loop-at-smaller : goal.loop-at-smaller
-loop-at-smaller c = 
+loop-at-smaller c =
     let a = c.args in
     let l = c.loop-at in
     let s = c.word_after-s in
     omega (arith, progress a.line.now l.at l.invariant.0 s.result s.ensures.value c.if-line-from.false)
 
 pub loop-at-preserved : goal.loop-at-preserved
-loop-at-preserved c = 
+loop-at-preserved c =
     let a = c.args in
     let l = c.loop-at in
     let s = c.word_after-s in (
@@ -37,6 +37,6 @@ loop-at-preserved c =
 
 pub returns : goal.returns
 unfolding words_of
-returns c = 
+returns c =
     let a = c.args in
     omega (arith, ap (λ l. length (words_of l)) (drop_of_length-le a.line.now c.loop-at-test.false))

@@ -10,15 +10,15 @@ returns-then-tag-eq-BLANK c = rw (← c.word_at-tag.ensures, c.if-tag-eq-BLANK.t
 pub returns : goal.returns
 unfolding place_of
 returns c = rw (
-      c.place_from.ensures,
-      c.origin_from-origin.ensures,
-      c.word_at-3.ensures,
-      c.frost_from-frost.ensures,
-      c.word_at-2.ensures,
-      c.word_at.ensures,
-      c.byte_at.ensures,
-      c.word_at-high.ensures,
-      c.word_at-low.ensures,
-      c.word_at-flags.ensures,
-      c.word_at-tag.ensures,
-    )
+  c.place_from.ensures,
+  c.origin_from-origin.ensures,
+  c.word_at-3.ensures,
+  c.frost_from-frost.ensures,
+  c.word_at-2.ensures,
+  c.word_at.ensures,
+  c.byte_at.ensures,
+  c.word_at-high.ensures,
+  c.word_at-low.ensures,
+  c.word_at-flags.ensures,
+  c.word_at-tag.ensures,
+)

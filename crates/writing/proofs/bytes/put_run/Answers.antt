@@ -22,7 +22,7 @@ pub loop-i-smaller : goal.loop-i-smaller
 loop-i-smaller c = omega arith
 
 pub loop-i-preserved : goal.loop-i-preserved
-loop-i-preserved c = 
+loop-i-preserved c =
     let put = c.put_word in
     let i = c.loop-i.i in
     let v = c.args.v in
@@ -40,7 +40,7 @@ pub shape_of-part : goal.shape_of-part
 shape_of-part c = omega arith
 
 pub returns : goal.returns
-returns c = 
+returns c =
     let a = c.args in
     let long = length-replicate a.n a.v in
     c.loop-i.invariant.2

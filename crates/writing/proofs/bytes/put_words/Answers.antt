@@ -27,7 +27,7 @@ pub loop-i-smaller : goal.loop-i-smaller
 loop-i-smaller c = omega arith
 
 pub loop-i-preserved : goal.loop-i-preserved
-loop-i-preserved c = 
+loop-i-preserved c =
     let put = c.put_word in
     let i = c.loop-i.i in
     let ws = c.args.ws.now in

@@ -6,7 +6,7 @@ use Rattle.writing.proofs.Runs.{notes_put}
 use Rattle.writing.proofs.notes.fill_notes.Goals as goal
 
 pub returns : goal.returns
-returns c = 
+returns c =
     let a = c.args in
     c.put_word.ensures ∙ ap (splice 0 (le32 (a.tag + 256 * a.argument))) c.put_run.ensures
     ∙ notes_put a.k a.n a.tag a.argument (omega arith) (omega arith) (omega arith) c.requires.1

@@ -9,7 +9,7 @@ use Rattle.writing.proofs.Stores.{lent}
 use Rattle.writing.proofs.notes.store_notes.Goals as goal
 
 pub returns : goal.returns
-returns c = 
+returns c =
     let a = c.args in
     let later = replicate (a.n - 1) (body a.k) in
     lent a.s.now _ (note_of a.tag a.argument ++ each note_bytes later) (memory_length + 4 * a.k.0) (4 * a.n) c.fill_notes.ensures

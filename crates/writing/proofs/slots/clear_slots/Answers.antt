@@ -7,7 +7,7 @@ use Rattle.writing.proofs.Runs.{run_zeros}
 use Rattle.writing.proofs.slots.clear_slots.Goals as goal
 
 pub returns : goal.returns
-returns c = 
+returns c =
     let a = c.args in
     let e : 4 * (16 * a.n) ≡ slot_size * a.n = omega arith in
     lent a.s.now _ (replicate (slot_size * a.n) 0) (slot_size * a.k.0) (slot_size * a.n)

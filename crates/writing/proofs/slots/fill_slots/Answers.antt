@@ -7,7 +7,7 @@ use Rattle.writing.proofs.Stores.{lent}
 use Rattle.writing.proofs.slots.fill_slots.Goals as goal
 
 pub returns : goal.returns
-returns c = 
+returns c =
     let a = c.args in
     lent a.s.now _ (words_bytes (a.a ∷ a.b ∷ a.c ∷ []) ++ replicate (slot_size * a.n - 12) 0) (slot_size * a.k.0) (slot_size * a.n) c.fill.ensures
     (omega (arith, length-replicate {A = ℕ} (slot_size * a.n - 12) 0))

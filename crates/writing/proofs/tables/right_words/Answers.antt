@@ -3,7 +3,7 @@ use Rattle.std.proofs.Common.{rules}
 use Rattle.writing.proofs.tables.right_words.Goals as goal
 
 pub returns : goal.returns
-returns c = 
+returns c =
     let f = c.frozen_number in
     let h = c.high_of in
     let l = c.low_of in
