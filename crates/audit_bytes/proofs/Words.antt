@@ -8,7 +8,6 @@ use native.Mathlib.Omega.{arith}
 use lib.Arith.{digits_div, digits_mod}
 use lib.Dec.{eqb, ltb}
 use lib.ListN.{drop, get_or, length}
-use lib.Pow.{split}
 use lib.Seq.{drop-cons, drop-drop}
 use borrow.Author.Tests.{eq-eqb, eqb-true}
 use Rattle.state.specs.Bytes.{le32, words_bytes}

@@ -13,7 +13,7 @@ use Rattle.state.proofs.Parts.{place_part}
 use Rattle.state.proofs.Write.{place_room}
 use Rattle.state.specs.Layout.{Laid}
 use Rattle.state.specs.Read.{held, place_from, place_of, read}
-use Rattle.state.specs.State.{State, entries_in, place_at, table}
+use Rattle.state.specs.State.{State, entries_in, place_at}
 use Rattle.words.specs.Fields.{address}
 use Rattle.words.specs.Sizes.{entry_size, place_count, slot_count, slot_size, slots_for, state_length}
 use Rattle.audit_entries.specs.Names.{Blank, Directory, Endpoint, Frost, Function, Memory, Origin, Place, Process, Slot, Table}

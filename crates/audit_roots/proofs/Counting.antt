@@ -15,7 +15,6 @@ use Rattle.audit_entries.proofs.Bounded.{sum_agree}
 use Rattle.audit_entries.proofs.Entries.{entries_few}
 use Rattle.audit_entries.proofs.Listed.{no_head}
 use Rattle.audit_entries.specs.Heads.{Heads}
-use Rattle.rules.specs.Calls.{most}
 use Rattle.rules.specs.WellFormed.{one}
 use Rattle.state.specs.Layout.{Laid}
 use Rattle.state.specs.Read.{read}

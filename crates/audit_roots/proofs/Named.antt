@@ -9,7 +9,6 @@ use lib.Dec.{eqb}
 use lib.ListN.{get_or}
 use borrow.Author.Tests.{eq-eqb, eqb-true, ne_eqb}
 use Rattle.audit_entries.proofs.Bounded.{sum_agree}
-use Rattle.rules.specs.Buffer.{same}
 use Rattle.rules.specs.WellFormed.{every_place, is_root_of, names, object_no, one, one_root, right, roots_of}
 use Rattle.state.proofs.Write.{object_inside}
 use Rattle.state.specs.Bytes.{tag_of}
@@ -17,7 +16,7 @@ use Rattle.state.specs.Layout.{Laid}
 use Rattle.state.specs.State.{Object, State, body, directory, endpoint, entries_in, free, obj_at, place_at, process, table}
 use Rattle.words.proofs.Tests.{all_at}
 use Rattle.words.specs.Fields.{slot}
-use Rattle.words.specs.Rights.{inside, is_root, kind_no, object_of}
+use Rattle.words.specs.Rights.{is_root, kind_no, object_of}
 use Rattle.words.specs.Sizes.{slot_count}
 use Rattle.words.specs.Tests.{◌&◌}
 use Rattle.audit_roots.specs.Names.{Blank, Directory, Endpoint, Function, Holds, Kind, Memory, Origin, Place, Process, Root, Slot, Table, Under}

@@ -2,7 +2,7 @@
 use Rattle.std.specs.Prelude.{not, ◌%◌, ◌+◌, eqb, ltb}
 use Rattle.rules.specs.Calls.{in_span, is_empty, size_at}
 use Rattle.state.specs.State.{State, position_at, positions_in, shape_at}
-use Rattle.words.specs.Try.{◌>>◌, ◌>>=◌, Try, need, ok! }
+use Rattle.words.specs.Try.{◌>>◌, Try, need, ok! }
 use Rattle.judging_pages.specs.Names.{Action, CapFlag, Child, PgtAddr, PgtMap, SetPosition, Span, Words}
 
 unfoldable pub hang_under : State → Span → Span → Words → Try Action

@@ -4,7 +4,6 @@ use Rattle.rules.proofs.Facts.{wf_laid}
 use Rattle.rules.proofs.Lift.{sound_open}
 use Rattle.rules.specs.Buffer.{sound}
 use Rattle.rules.specs.Commit.{ticked}
-use Rattle.rules.specs.WellFormed.{formed}
 use Rattle.state.proofs.Write.{bytes_clock}
 use Rattle.state.specs.Bytes.{bytes, le32}
 use Rattle.state.specs.Read.{read}

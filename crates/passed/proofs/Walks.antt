@@ -11,7 +11,6 @@ use borrow.Author.Tests.{eqb-true, leb-true, ltb-true}
 use Rattle.rules.specs.Calls.{as_directory_object, as_page, asked_flags, asked_kind, call_of, call_table, caller_table, change_directory, change_table, construct, create_directory, create_endpoint, create_process, create_table, delegate, delete_directory, delete_endpoint, delete_process, delete_table, destruct, freeze, function, granted, map_page, most, no_call, plan, receive, remove, remove_page, send, size_at}
 use Rattle.rules.specs.Numbers.{as_endpoint, as_process, as_table}
 use Rattle.rules.specs.Places.{spot}
-use Rattle.rules.specs.WellFormed.{right}
 use Rattle.state.specs.State.{Object, State, body, directory, endpoint, free, obj_at, place_number, position_at, positions_in, process, table}
 use Rattle.words.proofs.Tests.{and_left, and_right, not_false}
 use Rattle.words.specs.Fields.{D0, D1, call_number, slot}

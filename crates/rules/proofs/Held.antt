@@ -14,7 +14,7 @@ use Rattle.state.specs.Bytes.{bytes, parent_no}
 use Rattle.state.specs.Read.{read}
 use Rattle.state.specs.State.{Object, State, body, directory, endpoint, free, obj_at, place_numbered, places_of, positions_in, positions_of, process, table}
 use Rattle.words.proofs.Tests.{all_at, and_left, and_right}
-use Rattle.words.specs.Fields.{count, slot}
+use Rattle.words.specs.Fields.{slot}
 use Rattle.words.specs.Rights.{all_flags, high_of, low_of, object_of, stamp_of}
 use Rattle.words.specs.Sizes.{state_length}
 use Rattle.rules.specs.Formed.{Formed}

@@ -4,7 +4,7 @@ use Rattle.state.specs.State.{State, is_free, obj_at}
 use Rattle.words.specs.Fields.{slot}
 use Rattle.words.specs.Sizes.{kernel_start, slot_size}
 use Rattle.words.specs.Tests.{◌&◌, all_below}
-use Rattle.words.specs.Try.{◌>>◌, ◌>>=◌, Try, need, ok! }
+use Rattle.words.specs.Try.{◌>>◌, Try, need, ok! }
 use Rattle.rules.specs.Names.{CapFlag, CapKotbl, KernelAddress, Slot, Stretch}
 
 -- ---- "A creation's address: CAP_FLAG if misaligned or not wholly in the memory right, then KOTBL": the first of n slots

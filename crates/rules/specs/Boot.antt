@@ -2,7 +2,6 @@
 use Rattle.std.specs.Prelude.{true, ◌++◌, List, [], ◌∷◌, ◌*◌, ◌^◌, suc, zero, ℕ, replicate}
 use Rattle.state.specs.State.{Object, State, body, directory, endpoint, free, process, table}
 use Rattle.words.specs.Fields.{address, count, slot}
-use Rattle.words.specs.Refusals.{number}
 use Rattle.words.specs.Rights.{page_flags, root_right}
 use Rattle.words.specs.Sizes.{kernel_end, kernel_start}
 use Rattle.rules.specs.Names.{Blank, Directory, Endpoint, Function, Geometry, Holds, Memory, Page, Place, Position, Process, Table}

@@ -3,7 +3,6 @@ use Rattle.std.specs.Prelude.{Bool, false, not, true, List, [], ◌∷◌, ◌%�
 use Rattle.state.specs.State.{Object, State, body, boot_mark, count_of, directory, endpoint, entries_in, free, obj_at, place_at, place_number, position_at, positions_in, process, shape_at, table}
 use Rattle.words.specs.Fields.{C, D0, D1, Q0, Q1, address, call_number, capability_number, count, number_order, slot}
 use Rattle.words.specs.Grants.{unpack}
-use Rattle.words.specs.Refusals.{number}
 use Rattle.words.specs.Rights.{d_add_dst, d_add_src, d_con_child, d_con_parent, d_des, d_proc_crt, d_proc_pgt, d_rem, e_snd, has, inside, is_blank, m_captbl, m_pgtbl, m_proc, m_sig, p_cpt, p_pgt, some_flag, some_range, subset, t_add_dst, t_add_src, t_crt, t_del, t_frz, t_proc_cpt, t_proc_crt, t_rem}
 use Rattle.words.specs.Sizes.{entry_size, header_size, most_entries, position_size, slot_count, slots_for}
 use Rattle.words.specs.Tests.{◌&◌, all_below, any_below, choose, ◌or◌}

@@ -3,7 +3,6 @@ use Rattle.std.specs.Prelude.{Bool, false, not, true, ◌%◌, ◌+◌, ◌^◌,
 use Rattle.state.specs.Layout.{lay}
 use Rattle.state.specs.State.{Object, State, body, directory, endpoint, entries_in, free, obj_at, place_at, place_numbered, positions_in, process, shape_at, shape_of, table, with_clock}
 use Rattle.words.specs.Fields.{slot}
-use Rattle.words.specs.Refusals.{number}
 use Rattle.words.specs.Rights.{all_flags, inside, is_root, kind_no, object_of, page_flags, subset}
 use Rattle.words.specs.Sizes.{kernel_end, kernel_start, least_number_order, least_size_order, most_entries, most_number_order, most_order_sum, most_size_order, place_count, slot_count, slot_size}
 use Rattle.words.specs.Tests.{◌&◌, all_below, sum_below}

@@ -1,7 +1,6 @@
 -- `audit::well_formed` meets its contract: the parts in their order are the rule, and each has shown what the next ones ask for.
 use mathlib.Core.Path.{sym, ◌∙◌}
-use borrow.Author.Rules.{rules}
-use borrow.Author.Tests.{eq-eqb, ne_eqb, not-false, not-true}
+use borrow.Author.Tests.{eq-eqb, ne_eqb}
 use Rattle.words.proofs.Tests.{and_no, and_yes}
 use Rattle.audit.proofs.Order.{in_order}
 use Rattle.audit.proofs.Ready.{chains_ready, roots_ready}

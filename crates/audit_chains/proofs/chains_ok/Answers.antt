@@ -1,18 +1,10 @@
 -- `audit_chains::chains_ok` meets its contract: each listed table is asked in turn, with no mark at first, and the other slots have no entry.
-use mathlib.Core.Bool.{true}
 use mathlib.Core.Path.{sym, ◌∙◌, ◌≡◌}
-use Prim.Native.Nat.{◌-◌, ◌≤◌}
 use native.Mathlib.Numerals.{add-one}
 use native.Mathlib.Omega.{arith}
-use lib.ListN.{get_or}
 use borrow.Author.Rules.{rules}
-use borrow.Author.Tests.{not-false, not-true}
-use Rattle.state.specs.Read.{read}
 use Rattle.words.proofs.Tests.{all_more, all_not, all_zero}
-use Rattle.words.specs.Fields.{slot}
-use Rattle.words.specs.Tests.{all_below}
-use Rattle.audit_chains.specs.Chains.{Shown}
-use Rattle.audit_chains.proofs.Table.{listed_chained, table_chained}
+use Rattle.audit_chains.proofs.Table.{listed_chained}
 use Rattle.audit_chains.proofs.Walk.{shown_none}
 use Rattle.audit_chains.proofs.chains_ok.Goals as goal
 

@@ -1,7 +1,6 @@
 -- `audit_chains::entry_chained` meets its contract: a child's chain is its parent's.
 use mathlib.Core.Logic.{inl, inr}
 use mathlib.Core.Path.{refl, sym, ◌∙◌}
-use borrow.Author.Rules.{rules}
 use Rattle.state.specs.Read.{read}
 use Rattle.audit_chains.specs.Chains.{chained, under}
 use Rattle.audit_chains.proofs.Entry.{entry_blank, entry_child, entry_root}

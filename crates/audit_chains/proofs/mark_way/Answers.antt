@@ -2,12 +2,11 @@
 use mathlib.Core.Path.{◌≡◌}
 use Prim.Native.Nat.{◌+◌, ◌-◌}
 use native.Mathlib.Omega.{arith}
-use borrow.Author.Rules.{rules}
 use Rattle.state.specs.Read.{read}
-use Rattle.audit_chains.specs.Chains.{Shown, codes}
-use Rattle.rules.proofs.Chain.{Reaches, parent_of}
+use Rattle.audit_chains.specs.Chains.{codes}
+use Rattle.rules.proofs.Chain.{parent_of}
 use Rattle.rules.proofs.Codes.{reaches_inside, test_reaches}
-use Rattle.rules.proofs.Fuel.{zeros, zeros_fall}
+use Rattle.rules.proofs.Fuel.{zeros_fall}
 use Rattle.audit_chains.proofs.Walk.{reaches_holds, shown_more}
 use Rattle.audit_chains.proofs.mark_way.Goals as goal
 

@@ -1,7 +1,5 @@
 -- `audit_chains::parent_reaches` meets its contract: the answer is the walk's, and the way is marked only where it is yes.
 use mathlib.Core.Path.{sym, ◌∙◌}
-use borrow.Author.Rules.{rules}
-use borrow.Author.Tests.{not-false, not-true}
 use Rattle.audit_chains.proofs.parent_reaches.Goals as goal
 
 pub returns-then-not-reaches_root : goal.returns-then-not-reaches_root

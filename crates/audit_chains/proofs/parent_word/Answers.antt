@@ -1,6 +1,5 @@
 -- `audit_chains::parent_word` meets its contract: a place that holds a right is one of 512, and stands in the slot of half its number.
 use native.Mathlib.Omega.{arith}
-use borrow.Author.Rules.{rules}
 use Rattle.audit_chains.proofs.Entry.{numbered_code, numbered_room, numbered_small}
 use Rattle.audit_chains.proofs.parent_word.Goals as goal
 

@@ -1,13 +1,8 @@
 -- `audit_chains::table_chained` meets its contract: each entry is asked in turn, and the marks stay true.
 use mathlib.Core.Bool.{true}
-use mathlib.Core.Path.{ap, sym, ◌∙◌, ◌≡◌}
-use Prim.Native.Nat.{◌*◌, ◌-◌, ℕ, ◌≤◌}
-use native.Mathlib.Numerals.{add-one}
-use native.Mathlib.Omega.{arith}
-use borrow.Author.Rules.{rules}
-use borrow.Author.Tests.{not-false, not-true}
+use mathlib.Core.Path.{◌≡◌}
+use Prim.Native.Nat.{◌*◌, ◌-◌, ◌≤◌}
 use Rattle.state.specs.Read.{place_of, read}
-use Rattle.words.proofs.Tests.{all_more, all_not, all_zero}
 use Rattle.words.specs.Tests.{all_below}
 use Rattle.audit_chains.specs.Chains.{Shown, place_chained}
 use Rattle.audit_chains.proofs.table_chained.Given as goal

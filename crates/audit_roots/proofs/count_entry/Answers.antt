@@ -1,6 +1,5 @@
 -- `audit_roots::count_entry` meets its contract: a root is counted under its own number, and what is none nowhere.
 use native.Mathlib.Omega.{arith}
-use borrow.Author.Rules.{rules}
 use Rattle.audit_roots.proofs.Counting.{count_none, count_one}
 use Rattle.audit_roots.proofs.count_entry.Goals as goal
 

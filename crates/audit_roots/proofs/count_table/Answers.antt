@@ -1,11 +1,11 @@
 -- `audit_roots::count_table` meets its contract: the counts have the entries passed, which are few.
 use mathlib.Core.Path.{◌≡◌}
-use Prim.Native.Nat.{◌*◌, ◌+◌, ◌-◌, ◌≤◌}
+use Prim.Native.Nat.{◌*◌, ◌+◌}
 use native.Mathlib.Omega.{arith}
 use borrow.Author.Rules.{rules}
 use Rattle.state.specs.Read.{place_of}
 use Rattle.words.specs.Sizes.{place_count}
-use Rattle.audit_roots.specs.Roots.{Counts, more, most_roots, roots_among}
+use Rattle.audit_roots.specs.Roots.{most_roots}
 use Rattle.audit_roots.proofs.Counting.{among_most, among_next, counts_next, counts_upto, none_yet}
 use Rattle.audit_roots.proofs.count_table.Goals as goal
 

@@ -1,18 +1,11 @@
 -- `audit_roots::objects_rooted` meets its contract: each listed slot is asked in turn, and of the others nothing is asked.
 use mathlib.Core.Path.{◌≡◌, refl, sym, ◌∙◌}
-use mathlib.Core.Bool.{true}
-use Prim.Native.Nat.{◌-◌, ◌≤◌}
 use native.Mathlib.Omega.{arith}
 use native.Mathlib.Numerals.{add-one}
-use lib.ListN.{get_or}
-use borrow.Author.Tests.{not-true, not-false}
 use borrow.Author.Rules.{rules}
-use Rattle.words.specs.Fields.{slot}
-use Rattle.words.specs.Tests.{all_below}
 use Rattle.words.proofs.Tests.{all_zero, all_more, all_not}
 use Rattle.audit_entries.proofs.Listed.{heads_objects}
 use Rattle.state.specs.Read.{read}
-use Rattle.state.specs.State.{obj_at}
 use Rattle.rules.specs.WellFormed.{every_object, one_root}
 use Rattle.audit_roots.proofs.objects_rooted.Goals as goal
 

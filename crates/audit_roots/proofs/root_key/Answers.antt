@@ -3,7 +3,6 @@ use mathlib.Core.Logic.{inl, inr}
 use mathlib.Core.Path.{sym, ◌∙◌}
 use Prim.Native.Nat.{◌+◌}
 use native.Mathlib.Omega.{arith}
-use borrow.Author.Rules.{rules}
 use Rattle.audit_roots.proofs.Keys.{key_blank, key_child, key_function, key_memory, key_object}
 use Rattle.audit_roots.proofs.root_key.Goals as goal
 

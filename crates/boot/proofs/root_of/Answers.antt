@@ -1,5 +1,4 @@
 -- `boot::root_of` meets its contract: its flags are those that `all_flags` gives.
-use borrow.Author.Rules.{rules}
 use Rattle.boot.proofs.root_of.Goals as goal
 
 pub returns : goal.returns

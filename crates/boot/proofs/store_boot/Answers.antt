@@ -1,5 +1,4 @@
 -- `boot::store_boot` meets its contract: the stages over a cleared buffer are the boot state's bytes.
-use borrow.Author.Rules.{rules}
 use Rattle.boot.proofs.Written.{boot_written}
 use Rattle.boot.proofs.store_boot.Goals as goal
 

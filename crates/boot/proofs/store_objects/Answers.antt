@@ -1,5 +1,4 @@
 -- `boot::store_objects` meets its contract: each writer's splice, the last outermost.
-use borrow.Author.Rules.{rules}
 use Rattle.boot.specs.Stages.{with_objects}
 use Rattle.boot.proofs.store_objects.Goals as goal
 

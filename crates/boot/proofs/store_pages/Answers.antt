@@ -1,11 +1,9 @@
 -- `boot::store_pages` meets its contract. The loop's invariant: the first i pages are stored.
 use mathlib.Core.Path.{◌≡◌, refl, ap, ◌∙◌}
-use Prim.Native.Nat.{ℕ, ◌≤◌, ◌-◌}
+use Prim.Native.Nat.{ℕ}
 use native.Mathlib.Omega.{arith}
 use native.Mathlib.Numerals.{add-one}
-use lib.ListN.{length}
 use borrow.Author.Rules.{rules}
-use Rattle.words.specs.Sizes.{state_length}
 use Rattle.boot.specs.Stages.{with_pages}
 use Rattle.boot.proofs.store_pages.Goals as goal
 

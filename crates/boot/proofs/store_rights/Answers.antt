@@ -1,5 +1,4 @@
 -- `boot::store_rights` meets its contract: each entry's splice, the last outermost.
-use borrow.Author.Rules.{rules}
 use Rattle.boot.specs.Stages.{with_rights}
 use Rattle.boot.proofs.store_rights.Goals as goal
 

@@ -1,6 +1,5 @@
 -- `digits::digit` meets its contract: a character's class decides what it counts.
 use native.Mathlib.Omega.{arith}
-use borrow.Author.Rules.{rules}
 use Rattle.digits.proofs.Classes.{inside, below, above}
 use Rattle.digits.specs.Digits.{digit_of}
 use Rattle.digits.proofs.digit.Goals as goal

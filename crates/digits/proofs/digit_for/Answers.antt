@@ -1,7 +1,6 @@
 -- `digits::digit_for` meets its contract.
 use borrow.Author.Tests.{lt-ltb, le-ltb}
 use Rattle.digits.specs.Digits.{digit_for}
-use borrow.Author.Rules.{rules}
 use Rattle.digits.proofs.digit_for.Goals as goal
 
 pub returns-then-n-lt10 : goal.returns-then-n-lt10

@@ -1,6 +1,5 @@
 -- `hex_reading::lines_taken` meets its contract.
 use Rattle.intel_hex.specs.Reading.{taken_of, unset}
-use borrow.Author.Rules.{rules}
 use Rattle.hex_reading.proofs.lines_taken.Goals as goal
 
 pub returns-in-Not : goal.returns-in-Not

@@ -6,7 +6,6 @@ use mir.ValLaws.{to_z-of_z}
 use Rattle.intel_hex.specs.Outcomes.{read_outcome}
 use Rattle.intel_hex.specs.Reading.{unset}
 use Rattle.intel_hex.proofs.Ends.{cells_read, outcome_of}
-use borrow.Author.Rules.{rules}
 use Rattle.hex_reading.proofs.read_hex.Goals as goal
 
 pub returns-then-s-ne-STATE_LENGTH : goal.returns-then-s-ne-STATE_LENGTH

@@ -1,12 +1,10 @@
 -- `hex_reading::store_given` meets its contract: the check is made on bytes apart, and the destination is written where it passes.
 use mathlib.Core.Bool.{true, false}
 use mathlib.Core.Path.{◌≡◌, sym, ◌∙◌}
-use borrow.Author.Tests.{not-true, not-false}
 use mir.Syntax.{w32}
 use mir.ValLaws.{to_z-of_z}
 use Rattle.rules.specs.Buffer.{sound}
 use Rattle.intel_hex.specs.Reading.{given}
-use borrow.Author.Rules.{rules}
 use Rattle.hex_reading.proofs.store_given.Goals as goal
 
 pub returns-then-not-well_formed : goal.returns-then-not-well_formed

@@ -1,11 +1,10 @@
 -- `hex_writing::write_hex` meets its contract.
 use mathlib.Core.Path.{sym, ◌∙◌}
-use borrow.Author.Tests.{le-leb, lt-leb, not-true, not-false}
+use borrow.Author.Tests.{le-leb, lt-leb}
 use mir.Syntax.{w32}
 use mir.ValLaws.{to_z-of_z}
 use Rattle.intel_hex.specs.Outcomes.{write_outcome}
 use Rattle.intel_hex.proofs.Trip.{sound_length}
-use borrow.Author.Rules.{rules}
 use Rattle.hex_writing.proofs.write_hex.Goals as goal
 
 pub returns-then-not-well_formed : goal.returns-then-not-well_formed

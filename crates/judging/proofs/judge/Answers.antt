@@ -1,5 +1,4 @@
 -- `judging::judge` meets its contract: by the caller's table, then the call.
-use borrow.Author.Rules.{rules}
 use Rattle.words.specs.Try.{◌>>=◌}
 use Rattle.rules.specs.Calls.{plan}
 use Rattle.judging.proofs.judge.Goals as goal

@@ -1,6 +1,5 @@
 -- `judging::judge_call` meets its contract: in each arm the call's number picks the rule; in the last there is none.
 use mathlib.Core.Path.{refl}
-use borrow.Author.Rules.{rules}
 use Rattle.judging.proofs.Numbered.{no_call_lem}
 use Rattle.judging.proofs.judge_call.Goals as goal
 

@@ -1,7 +1,5 @@
 -- `audit_bytes::canonical::canonical` meets its contract: its tests are those of `canonical_parts`, in that order.
 use mathlib.Core.Path.{sym, ◌∙◌}
-use borrow.Author.Tests.{not-true, not-false}
-use borrow.Author.Rules.{rules}
 use Rattle.words.proofs.Tests.{and_no, and_yes}
 use Rattle.audit_bytes.proofs.Whole.{canonical_parts}
 use Rattle.audit_bytes.proofs.canonical.canonical.Goals as goal

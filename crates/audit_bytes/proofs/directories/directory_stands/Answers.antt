@@ -2,8 +2,7 @@
 use mathlib.Core.Path.{sym, ap, ◌∙◌}
 use Prim.Native.Nat.{ℕ}
 use lib.Dec.{leb}
-use borrow.Author.Tests.{le-leb, lt-leb, not-true, not-false}
-use borrow.Author.Rules.{rules}
+use borrow.Author.Tests.{le-leb, lt-leb}
 use Rattle.words.proofs.Tests.{and_no, and_yes}
 use Rattle.audit_bytes.proofs.ObjectWords.{directory_stands}
 use Rattle.audit_bytes.proofs.directories.directory_stands.Goals as goal

@@ -1,18 +1,10 @@
 -- `audit_bytes::directories::positions_stand` meets its contract: each turn passes one position.
-use mathlib.Core.Path.{◌≡◌, sym, ap, ◌∙◌, ap₂}
+use mathlib.Core.Path.{◌≡◌}
 use mathlib.Core.Bool.{true}
-use Prim.Native.Nat.{ℕ, ◌+◌, ◌*◌, ◌-◌, ◌≤◌}
-use native.Mathlib.Omega.{arith}
-use native.Mathlib.Numerals.{add-one}
-use borrow.Author.Tests.{not-true, not-false}
-use borrow.Author.Rules.{rules}
-use Rattle.words.proofs.Tests.{all_zero, all_more, all_not}
+use Prim.Native.Nat.{◌+◌, ◌*◌, ◌-◌, ◌≤◌}
 use Rattle.words.specs.Tests.{all_below}
-use Rattle.audit_bytes.specs.Clean.{position_clean}
 use Rattle.audit_bytes.specs.Stands.{position_stands}
 use Rattle.words.specs.Sizes.{header_size, position_size}
-use Rattle.audit_bytes.proofs.PositionWords.{position_stands_lem}
-use Rattle.state.specs.Read.{word_at}
 use Rattle.audit_bytes.proofs.directories.positions_stand.Given as goal
 
 abbrev pub invariant-loop-i : goal.invariant-loop-i

@@ -3,7 +3,6 @@ use mathlib.Core.Path.{sym, ap, ◌∙◌}
 use Prim.Native.Nat.{ℕ}
 use lib.Dec.{leb}
 use borrow.Author.Tests.{le-leb, lt-leb}
-use borrow.Author.Rules.{rules}
 use Rattle.words.proofs.Tests.{and_no, and_yes}
 use Rattle.audit_bytes.proofs.ObjectWords.{endpoint_stands}
 use Rattle.audit_bytes.proofs.objects.endpoint_stands.Goals as goal

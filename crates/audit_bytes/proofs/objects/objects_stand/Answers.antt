@@ -1,10 +1,8 @@
 -- `audit_bytes::objects::objects_stand` meets its contract: each turn passes one slot, the used ones first and then the free ones behind them.
 use mathlib.Core.Path.{◌≡◌, sym, ap, ◌∙◌}
-use mathlib.Core.Bool.{true}
-use Prim.Native.Nat.{ℕ, ◌-◌, ◌≤◌}
+use Prim.Native.Nat.{ℕ}
 use native.Mathlib.Omega.{arith}
 use native.Mathlib.Numerals.{add-one}
-use borrow.Author.Tests.{not-true, not-false}
 use borrow.Author.Rules.{rules}
 use Rattle.words.proofs.Tests.{all_zero, all_more, all_not}
 use Rattle.words.specs.Tests.{all_below}

@@ -1,5 +1,4 @@
 -- `audit_bytes::objects::own_slots` meets its contract: as many slots as what stands there takes.
-use borrow.Author.Rules.{rules}
 use Rattle.audit_bytes.proofs.objects.own_slots.Goals as goal
 
 pub returns : goal.returns

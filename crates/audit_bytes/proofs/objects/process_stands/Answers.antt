@@ -3,7 +3,6 @@ use mathlib.Core.Path.{sym, ap, ◌∙◌}
 use Prim.Native.Nat.{ℕ}
 use lib.Dec.{ltb}
 use borrow.Author.Tests.{le-ltb, lt-ltb}
-use borrow.Author.Rules.{rules}
 use Rattle.words.proofs.Tests.{and_no, and_yes}
 use Rattle.audit_bytes.proofs.ObjectWords.{process_stands}
 use Rattle.audit_bytes.proofs.objects.process_stands.Goals as goal

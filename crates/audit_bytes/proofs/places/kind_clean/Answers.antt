@@ -1,6 +1,5 @@
 -- `audit_bytes::places::kind_clean` meets its contract: each arm rewrites with the kind that led there.
 use borrow.Author.Tests.{ne_eqb}
-use borrow.Author.Rules.{rules}
 use Rattle.audit_bytes.specs.Clean.{kind_clean}
 use Rattle.audit_bytes.proofs.places.kind_clean.Goals as goal
 

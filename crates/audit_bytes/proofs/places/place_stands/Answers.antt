@@ -1,7 +1,5 @@
 -- `audit_bytes::places::place_stands` meets its contract: the words that it reads are those that `place_right` and `place_blank` name.
 use mathlib.Core.Path.{sym, ◌∙◌, ap₂}
-use borrow.Author.Tests.{not-true, not-false}
-use borrow.Author.Rules.{rules}
 use Rattle.audit_bytes.specs.Clean.{frost_clean, kind_clean}
 use Rattle.words.proofs.Tests.{and_no, and_yes}
 use Rattle.audit_bytes.proofs.PlaceWords.{place_blank, place_right}

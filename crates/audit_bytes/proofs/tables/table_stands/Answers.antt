@@ -1,7 +1,5 @@
 -- `audit_bytes::tables::table_stands` meets its contract: its tests are those of `table_stands`, in that order.
 use mathlib.Core.Path.{sym, ◌∙◌}
-use borrow.Author.Tests.{not-true, not-false}
-use borrow.Author.Rules.{rules}
 use Rattle.words.proofs.Tests.{and_no, and_yes}
 use Rattle.audit_bytes.proofs.ObjectWords.{table_stands}
 use Rattle.audit_bytes.proofs.tables.table_stands.Goals as goal

@@ -1,8 +1,6 @@
 -- `audit_entries::used::used` meets its contract: the slots that the search has left behind have notes of zeros.
 use mathlib.Core.Path.{sym, ◌∙◌}
 use native.Mathlib.Omega.{arith}
-use borrow.Author.Rules.{rules}
-use Rattle.audit_entries.specs.Vacant.{Vacant}
 use Rattle.audit_entries.proofs.Vacant.{used_at_lem, vacant_more, vacant_none}
 use Rattle.audit_entries.proofs.used.used.Goals as goal
 

@@ -1,7 +1,6 @@
 -- `audit_objects::directories::child_ok` meets its contract: the readers give what `hangs` asks of.
 use mathlib.Core.Path.{sym, ◌∙◌}
 use borrow.Author.Tests.{eq-eqb, ne_eqb}
-use borrow.Author.Rules.{rules}
 use Rattle.words.specs.Tests.{◌&◌}
 use Rattle.state.specs.Read.{read}
 use Rattle.state.specs.State.{obj_at}

@@ -1,6 +1,5 @@
 -- `audit_objects::directories::geometry_ok` meets its contract: each return rewrites with the tests that led there.
 use borrow.Author.Tests.{le-leb, lt-leb}
-use borrow.Author.Rules.{rules}
 use Rattle.words.specs.Tests.{◌&◌}
 use Rattle.rules.specs.WellFormed.{geometric}
 use Rattle.audit_objects.proofs.directories.geometry_ok.Goals as goal

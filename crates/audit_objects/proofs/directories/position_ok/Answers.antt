@@ -1,6 +1,6 @@
 -- `audit_objects::directories::position_ok` meets its contract: the tag chooses what is asked, and the two readers tell it.
 use Prim.Native.Nat.{◌^◌}
-use borrow.Author.Tests.{ne_eqb, lt-ltb, not-true, not-false}
+use borrow.Author.Tests.{ne_eqb, lt-ltb}
 use borrow.Author.Rules.{rules}
 use Rattle.words.specs.Tests.{◌&◌}
 use Rattle.state.specs.Read.{position_of, position_from}

@@ -1,16 +1,9 @@
 -- `audit_objects::directories::positions_ok` meets its contract: the positions passed so far are as they must be.
 use mathlib.Core.Path.{◌≡◌, sym, ◌∙◌}
-use mathlib.Core.Bool.{true}
-use Prim.Native.Nat.{◌+◌, ◌*◌, ◌-◌, ◌≤◌}
 use native.Mathlib.Omega.{arith}
 use native.Mathlib.Numerals.{add-one}
-use borrow.Author.Tests.{not-true, not-false}
 use borrow.Author.Rules.{rules}
-use Rattle.words.specs.Tests.{all_below}
 use Rattle.words.proofs.Tests.{all_zero, all_more, all_not}
-use Rattle.words.specs.Sizes.{header_size, position_size}
-use Rattle.state.specs.Read.{read, position_of}
-use Rattle.rules.specs.WellFormed.{position_ok}
 use Rattle.audit_objects.proofs.directories.positions_ok.Goals as goal
 
 pub loop-i-init : goal.loop-i-init

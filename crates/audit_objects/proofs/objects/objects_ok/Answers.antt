@@ -1,18 +1,11 @@
 -- `audit_objects::objects::objects_ok` meets its contract: the listed objects passed so far are as they must be, and of the other slots nothing is asked.
 use mathlib.Core.Path.{◌≡◌, refl, sym, ◌∙◌}
-use mathlib.Core.Bool.{true}
-use Prim.Native.Nat.{◌-◌, ◌≤◌}
 use native.Mathlib.Omega.{arith}
 use native.Mathlib.Numerals.{add-one}
-use lib.ListN.{get_or}
-use borrow.Author.Tests.{not-true, not-false}
 use borrow.Author.Rules.{rules}
-use Rattle.words.specs.Fields.{slot}
-use Rattle.words.specs.Tests.{all_below}
 use Rattle.words.proofs.Tests.{all_zero, all_more, all_not}
 use Rattle.audit_entries.proofs.Listed.{heads_objects}
 use Rattle.state.specs.Read.{read}
-use Rattle.state.specs.State.{obj_at}
 use Rattle.rules.specs.WellFormed.{object_ok, every_object}
 use Rattle.audit_objects.proofs.objects.objects_ok.Goals as goal
 

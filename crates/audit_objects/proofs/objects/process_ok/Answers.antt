@@ -1,6 +1,5 @@
 -- `audit_objects::objects::process_ok` meets its contract: the readers give what `runs` asks of.
 use borrow.Author.Tests.{eq-eqb, ne_eqb}
-use borrow.Author.Rules.{rules}
 use Rattle.words.specs.Tests.{◌&◌}
 use Rattle.state.specs.Read.{read}
 use Rattle.rules.specs.WellFormed.{runs}

@@ -1,6 +1,5 @@
 -- `audit_objects::objects::table_ok` meets its contract: the entries are those that the note tells.
 use borrow.Author.Tests.{le-leb, lt-leb}
-use borrow.Author.Rules.{rules}
 use Rattle.words.specs.Tests.{◌&◌}
 use Rattle.state.specs.Read.{read}
 use Rattle.audit_objects.proofs.Asked.{ok_table}

@@ -3,7 +3,6 @@ use Prim.Native.Nat.{◌^◌, ◌≤◌, ◌<◌}
 use native.Mathlib.Omega.{arith}
 use native.Mathlib.Nat.{one-mul, mod-eq_of_lt}
 use lib.Pow.{pow_mono, pow_pos}
-use borrow.Author.Rules.{rules}
 use Rattle.audit_objects.proofs.orders.is_multiple.Goals as goal
 
 pub nonzero_rem-result : goal.nonzero_rem-result

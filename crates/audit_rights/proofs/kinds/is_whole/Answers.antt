@@ -1,6 +1,5 @@
 -- `audit_rights::kinds::is_whole` meets its contract: each arm asks what `whole` asks of its kind.
 use native.Mathlib.Numerals.{add-one}
-use borrow.Author.Rules.{rules}
 use Rattle.rules.specs.WellFormed.{whole}
 use Rattle.audit_rights.proofs.kinds.is_whole.Goals as goal
 

@@ -1,6 +1,5 @@
 -- `audit_rights::kinds::kind_in` meets its contract: each arm of the match is the choice of `kind_from`.
 use borrow.Author.Tests.{ne_eqb}
-use borrow.Author.Rules.{rules}
 use Rattle.audit_rights.specs.ByWords.{kind_from}
 use Rattle.audit_rights.proofs.kinds.kind_in.Goals as goal
 

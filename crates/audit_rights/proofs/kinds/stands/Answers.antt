@@ -1,5 +1,4 @@
 -- `audit_rights::kinds::stands` meets its contract: each arm asks what the two tests ask of its kind.
-use borrow.Author.Rules.{rules}
 use Rattle.words.specs.Tests.{◌&◌}
 use Rattle.state.specs.Read.{read}
 use Rattle.rules.specs.WellFormed.{names, ends_ok}

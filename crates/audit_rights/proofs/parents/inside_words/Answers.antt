@@ -1,6 +1,5 @@
 -- `audit_rights::parents::inside_words` meets its contract: each return rewrites with the kind and the tests that led there.
 use borrow.Author.Tests.{eq-eqb, ne_eqb, le-leb, lt-leb}
-use borrow.Author.Rules.{rules}
 use Rattle.words.specs.Tests.{◌&◌}
 use Rattle.audit_rights.specs.ByWords.{inside_words}
 use Rattle.audit_rights.proofs.parents.inside_words.Goals as goal

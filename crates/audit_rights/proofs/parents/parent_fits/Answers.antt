@@ -1,7 +1,6 @@
 -- `audit_rights::parents::parent_fits` meets its contract: the words compared are those of the entry.
 use mathlib.Core.Path.{sym, ◌∙◌}
-use borrow.Author.Tests.{eq-eqb, ne_eqb, not-true, not-false}
-use borrow.Author.Rules.{rules}
+use borrow.Author.Tests.{eq-eqb, ne_eqb}
 use Rattle.words.proofs.Tests.{and_no, and_yes}
 use Rattle.words.specs.Rights.{subset}
 use Rattle.audit_rights.specs.ButChain.{bare}

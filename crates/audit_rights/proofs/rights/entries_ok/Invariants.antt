@@ -1,13 +1,8 @@
 -- `audit_rights::rights::entries_ok` meets its contract: the entries passed so far are as they must be.
-use mathlib.Core.Path.{◌≡◌, sym, ◌∙◌}
+use mathlib.Core.Path.{◌≡◌}
 use mathlib.Core.Bool.{true}
 use Prim.Native.Nat.{◌*◌, ◌-◌, ◌≤◌}
-use native.Mathlib.Omega.{arith}
-use native.Mathlib.Numerals.{add-one}
-use borrow.Author.Tests.{not-true, not-false}
-use borrow.Author.Rules.{rules}
 use Rattle.words.specs.Tests.{all_below}
-use Rattle.words.proofs.Tests.{all_zero, all_more, all_not}
 use Rattle.words.specs.Sizes.{entry_size}
 use Rattle.state.specs.Read.{read, place_of}
 use Rattle.rules.specs.WellFormed.{right}

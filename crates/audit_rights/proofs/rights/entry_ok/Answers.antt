@@ -1,7 +1,6 @@
 -- `audit_rights::rights::entry_ok` meets its contract: an entry of no kind is blank, and any other is a right of the kind that its first word tells.
 use mathlib.Core.Path.{sym, ◌∙◌}
 use native.Mathlib.Omega.{arith}
-use borrow.Author.Rules.{rules}
 use Rattle.state.specs.Read.{read}
 use Rattle.audit_rights.proofs.Compared.{entry_blank, entry_right}
 use Rattle.audit_rights.proofs.rights.entry_ok.Goals as goal

@@ -1,7 +1,6 @@
 -- `audit_rights::rights::right_ok` meets its contract: its three questions are the parts of `rightButChain`.
 use mathlib.Core.Path.{sym, ◌∙◌}
-use borrow.Author.Tests.{le-leb, lt-leb, not-true, not-false}
-use borrow.Author.Rules.{rules}
+use borrow.Author.Tests.{le-leb, lt-leb}
 use Rattle.words.proofs.Tests.{and_no, and_yes}
 use Rattle.state.specs.Read.{read, origin_from}
 use Rattle.audit_rights.proofs.Standing.{right_parts}

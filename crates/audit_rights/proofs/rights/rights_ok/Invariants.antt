@@ -1,21 +1,14 @@
 -- `audit_rights::rights::rights_ok` meets its contract: the listed tables passed so far are as they must be, and the other slots have no entry.
-use mathlib.Core.Path.{◌≡◌, sym, ◌∙◌}
+use mathlib.Core.Path.{◌≡◌}
 use mathlib.Core.Bool.{true}
 use Prim.Native.Nat.{◌-◌, ◌≤◌}
-use native.Mathlib.Omega.{arith}
-use native.Mathlib.Numerals.{add-one}
-use lib.ListN.{get_or, length}
-use borrow.Author.Tests.{not-true, not-false}
-use borrow.Author.Rules.{rules}
+use lib.ListN.{get_or}
 use Rattle.words.specs.Fields.{slot}
 use Rattle.words.specs.Tests.{all_below}
-use Rattle.words.proofs.Tests.{all_zero, all_more, all_not}
-use Rattle.audit_entries.proofs.Listed.{heads_objects}
 use Rattle.state.specs.Read.{read}
-use Rattle.state.specs.State.{Object, entries_in, place_at, places_of}
-use Rattle.rules.specs.WellFormed.{every_place, right}
+use Rattle.state.specs.State.{entries_in, place_at}
+use Rattle.rules.specs.WellFormed.{right}
 use Rattle.audit_rights.specs.ButChain.{right_but_chain}
-use Rattle.audit_rights.specs.Names.{Blank, Slot}
 use Rattle.audit_rights.proofs.rights.rights_ok.Given as goal
 
 abbrev pub invariant-loop-i : goal.invariant-loop-i

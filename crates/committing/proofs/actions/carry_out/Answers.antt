@@ -1,6 +1,5 @@
 -- `committing::actions::carry_out` meets its contract: each arm is its writer's promise; an answer writes nothing.
 use mathlib.Core.Path.{sym}
-use borrow.Author.Rules.{rules}
 use Rattle.committing.proofs.Laws.{back}
 use Rattle.committing.proofs.actions.carry_out.Goals as goal
 

@@ -1,6 +1,5 @@
 -- `committing::answers::answer_of` meets its contract: what is counted fits a signed word.
 use native.Mathlib.Omega.{arith}
-use borrow.Author.Rules.{rules}
 use mir.ValLaws.{to_z_pos}
 use mir.Syntax.{w32}
 use Rattle.committing.proofs.answers.answer_of.Goals as goal

@@ -1,7 +1,6 @@
 -- `committing::contents::commit_change_directory` meets its contract: `directory_law`.
 use mathlib.Core.Path.{◌∙◌}
 use native.Mathlib.Omega.{arith}
-use borrow.Author.Rules.{rules}
 use Rattle.committing.proofs.Laws.{slot_fits, directory_law}
 use Rattle.committing.proofs.contents.commit_change_directory.Goals as goal
 

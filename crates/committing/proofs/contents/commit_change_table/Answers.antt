@@ -1,7 +1,6 @@
 -- `committing::contents::commit_change_table` meets its contract: `table_law`.
 use mathlib.Core.Path.{◌∙◌}
 use native.Mathlib.Omega.{arith}
-use borrow.Author.Rules.{rules}
 use Rattle.committing.proofs.Laws.{slot_fits, table_law}
 use Rattle.committing.proofs.contents.commit_change_table.Goals as goal
 

@@ -1,7 +1,6 @@
 -- `committing::contents::commit_set_count` meets its contract: `count_law`.
 use mathlib.Core.Path.{◌∙◌}
 use native.Mathlib.Omega.{arith}
-use borrow.Author.Rules.{rules}
 use Rattle.committing.proofs.Laws.{slot_fits, count_law}
 use Rattle.committing.proofs.contents.commit_set_count.Goals as goal
 

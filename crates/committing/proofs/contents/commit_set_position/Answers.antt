@@ -1,6 +1,5 @@
 -- `committing::contents::commit_set_position` meets its contract: `position_law`.
 use mathlib.Core.Path.{◌∙◌}
-use borrow.Author.Rules.{rules}
 use Rattle.committing.proofs.Laws.{position_fits, position_law}
 use Rattle.committing.proofs.contents.commit_set_position.Goals as goal
 

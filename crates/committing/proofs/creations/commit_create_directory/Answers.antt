@@ -1,7 +1,6 @@
 -- `committing::creations::commit_create_directory` meets its contract: `directory_made`.
 use Prim.Native.Nat.{◌+◌, ◌*◌, ◌^◌}
 use native.Mathlib.Omega.{arith}
-use borrow.Author.Rules.{rules}
 use Rattle.words.specs.Sizes.{header_size, position_size, slots_for}
 use Rattle.committing.proofs.Laws.{new_room, entry_room, directory_made}
 use Rattle.committing.proofs.creations.commit_create_directory.Goals as goal

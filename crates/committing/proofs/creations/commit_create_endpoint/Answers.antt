@@ -1,6 +1,5 @@
 -- `committing::creations::commit_create_endpoint` meets its contract: `endpoint_made`.
 use native.Mathlib.Omega.{arith}
-use borrow.Author.Rules.{rules}
 use Rattle.committing.proofs.Laws.{new_room, entry_room, endpoint_made}
 use Rattle.committing.proofs.creations.commit_create_endpoint.Goals as goal
 

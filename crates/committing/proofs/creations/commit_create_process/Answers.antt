@@ -1,6 +1,5 @@
 -- `committing::creations::commit_create_process` meets its contract: `process_made`.
 use native.Mathlib.Omega.{arith}
-use borrow.Author.Rules.{rules}
 use Rattle.committing.proofs.Laws.{new_room, entry_room, process_made}
 use Rattle.committing.proofs.creations.commit_create_process.Goals as goal
 

@@ -1,7 +1,6 @@
 -- `committing::creations::commit_create_table` meets its contract: `table_made`.
 use Prim.Native.Nat.{◌*◌}
 use native.Mathlib.Omega.{arith}
-use borrow.Author.Rules.{rules}
 use Rattle.words.specs.Sizes.{entry_size, slots_for}
 use Rattle.committing.proofs.Laws.{new_room, entry_room, table_made}
 use Rattle.committing.proofs.creations.commit_create_table.Goals as goal

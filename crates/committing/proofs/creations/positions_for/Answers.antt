@@ -4,7 +4,6 @@ use Prim.Native.Nat.{◌<◌, ◌≤◌, ◌^◌}
 use native.Mathlib.Omega.{arith}
 use native.Mathlib.Nat.{one-mul, mod-eq_of_lt}
 use lib.Pow.{pow_mono, pow_pos}
-use borrow.Author.Rules.{rules}
 use Rattle.committing.proofs.creations.positions_for.Goals as goal
 
 pub returns : goal.returns

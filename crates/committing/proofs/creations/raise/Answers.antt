@@ -1,5 +1,4 @@
 -- `committing::creations::raise` meets its contract: the three writes in their order.
-use borrow.Author.Rules.{rules}
 use Rattle.committing.proofs.creations.raise.Goals as goal
 
 pub returns : goal.returns

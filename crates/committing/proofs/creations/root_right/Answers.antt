@@ -1,5 +1,4 @@
 -- `committing::creations::root_right` meets its contract: the flags are `all_flags`.
-use borrow.Author.Rules.{rules}
 use Rattle.committing.proofs.creations.root_right.Goals as goal
 
 pub returns : goal.returns

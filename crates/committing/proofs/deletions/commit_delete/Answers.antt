@@ -1,6 +1,5 @@
 -- `committing::deletions::commit_delete` meets its contract: `delete_law`.
 use native.Mathlib.Omega.{arith}
-use borrow.Author.Rules.{rules}
 use Rattle.committing.proofs.Laws.{long, entry_room, old_room, delete_law}
 use Rattle.committing.proofs.deletions.commit_delete.Goals as goal
 

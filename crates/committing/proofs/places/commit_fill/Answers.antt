@@ -1,6 +1,5 @@
 -- `committing::places::commit_fill` meets its contract: `place_law`.
 use mathlib.Core.Path.{◌∙◌}
-use borrow.Author.Rules.{rules}
 use Rattle.committing.proofs.Laws.{entry_room, place_law}
 use Rattle.committing.specs.Names.{Holds}
 use Rattle.committing.proofs.places.commit_fill.Goals as goal

@@ -1,5 +1,4 @@
 -- `committing::places::commit_freeze` meets its contract: `place_law`, with the clock as the stamp.
-use borrow.Author.Rules.{rules}
 use Rattle.committing.proofs.Laws.{entry_room, place_law}
 use Rattle.committing.proofs.places.commit_freeze.Goals as goal
 

@@ -1,6 +1,5 @@
 -- `committing::places::commit_remove` meets its contract: `place_law`.
 use mathlib.Core.Path.{◌∙◌}
-use borrow.Author.Rules.{rules}
 use Rattle.committing.proofs.Laws.{entry_room, place_law}
 use Rattle.committing.specs.Names.{Blank}
 use Rattle.committing.proofs.places.commit_remove.Goals as goal

@@ -1,5 +1,4 @@
 -- `committing::places::frozen` meets its contract: in each arm the constructor tells the place.
-use borrow.Author.Rules.{rules}
 use Rattle.committing.proofs.places.frozen.Goals as goal
 
 pub returns-in-Holds : goal.returns-in-Holds

@@ -1,13 +1,10 @@
 -- `hex_reading::cells::bytes_of` meets its contract: the bytes passed are those given, and behind them stands what was there.
-use mathlib.Core.List.{List, ◌++◌}
-use mathlib.Core.Path.{◌≡◌, refl, ap, sym, ◌∙◌}
-use Prim.Native.Nat.{ℕ, ◌-◌, ◌≤◌}
-use native.Mathlib.Omega.{arith}
-use lib.ListN.{drop, length, length-set, set, take}
+use mathlib.Core.List.{◌++◌}
+use mathlib.Core.Path.{◌≡◌}
+use Prim.Native.Nat.{◌-◌, ◌≤◌}
+use lib.ListN.{drop, length, take}
 use Rattle.words.specs.Sizes.{state_length}
 use Rattle.intel_hex.specs.Reading.{given}
-use Rattle.intel_hex.proofs.CellLaws.{front_done, front_more, given_at, length_given}
-use borrow.Author.Rules.{rules}
 use Rattle.hex_reading.proofs.cells.bytes_of.Given as goal
 
 abbrev pub invariant-loop-i : goal.invariant-loop-i

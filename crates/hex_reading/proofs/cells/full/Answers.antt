@@ -1,12 +1,7 @@
 -- `hex_reading::cells::full` meets its contract: as long as cells are given, what follows decides.
-use mathlib.Core.Path.{◌≡◌, refl, sym, ◌∙◌}
-use Prim.Native.Nat.{◌-◌, ◌≤◌}
+use mathlib.Core.Path.{refl, sym, ◌∙◌}
 use native.Mathlib.Omega.{arith}
-use lib.ListN.{drop}
-use Rattle.words.specs.Sizes.{state_length}
-use Rattle.intel_hex.specs.Reading.{full}
 use Rattle.intel_hex.proofs.CellLaws.{full_more, full_none, full_not}
-use borrow.Author.Rules.{rules}
 use Rattle.hex_reading.proofs.cells.full.Goals as goal
 
 pub loop-i-init : goal.loop-i-init

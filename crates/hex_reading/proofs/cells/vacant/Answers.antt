@@ -1,11 +1,9 @@
 -- `hex_reading::cells::vacant` meets its contract: as long as no cell is given, what follows decides.
 use mathlib.Core.Path.{◌≡◌, sym, ◌∙◌}
-use Prim.Native.Nat.{◌+◌, ◌-◌, ◌≤◌}
+use Prim.Native.Nat.{◌+◌, ◌-◌}
 use native.Mathlib.Omega.{arith}
-use lib.ListN.{drop, take}
-use Rattle.intel_hex.specs.Reading.{vacant}
+use lib.ListN.{drop}
 use Rattle.intel_hex.proofs.CellLaws.{vacant_more, vacant_none, vacant_not}
-use borrow.Author.Rules.{rules}
 use Rattle.hex_reading.proofs.cells.vacant.Goals as goal
 
 pub loop-i-init : goal.loop-i-init

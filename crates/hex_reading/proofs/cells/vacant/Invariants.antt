@@ -1,11 +1,8 @@
 -- `hex_reading::cells::vacant` meets its contract: as long as no cell is given, what follows decides.
-use mathlib.Core.Path.{◌≡◌, sym, ◌∙◌}
+use mathlib.Core.Path.{◌≡◌}
 use Prim.Native.Nat.{◌+◌, ◌-◌, ◌≤◌}
-use native.Mathlib.Omega.{arith}
 use lib.ListN.{drop, take}
 use Rattle.intel_hex.specs.Reading.{vacant}
-use Rattle.intel_hex.proofs.CellLaws.{vacant_more, vacant_none, vacant_not}
-use borrow.Author.Rules.{rules}
 use Rattle.hex_reading.proofs.cells.vacant.Given as goal
 
 abbrev pub invariant-loop-i : goal.invariant-loop-i

@@ -1,5 +1,4 @@
 -- `hex_reading::faults::fault_number` meets its contract: in each arm the constructor tells the number.
-use borrow.Author.Rules.{rules}
 use Rattle.hex_reading.proofs.faults.fault_number.Goals as goal
 
 pub returns-in-Line : goal.returns-in-Line

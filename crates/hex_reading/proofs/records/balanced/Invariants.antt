@@ -1,14 +1,9 @@
 -- `hex_reading::records::balanced` meets its contract: the sum so far, modulo 256.
-use mathlib.Core.Path.{◌≡◌, refl}
+use mathlib.Core.Path.{◌≡◌}
 use Prim.Native.Nat.{◌/◌, ◌%◌, ◌-◌, ◌≤◌}
-use native.Mathlib.Omega.{arith}
 use lib.ListN.{length, take}
-use lib.Seq.{take_all}
 use Rattle.intel_hex.specs.Lines.{spelled_by}
 use Rattle.intel_hex.specs.Records.{sum_of}
-use Rattle.intel_hex.proofs.Finding.{spelled_length}
-use Rattle.intel_hex.proofs.RecordLaws.{sum_more}
-use borrow.Author.Rules.{rules}
 use Rattle.hex_reading.proofs.records.balanced.Given as goal
 
 abbrev pub invariant-loop-k : goal.invariant-loop-k

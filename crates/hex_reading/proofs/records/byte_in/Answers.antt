@@ -5,7 +5,6 @@ use native.Mathlib.Omega.{arith}
 use lib.ListN.{get_or-eq_default}
 use Rattle.intel_hex.specs.Lines.{spelled_by}
 use Rattle.intel_hex.proofs.Finding.{spelled_at, spelled_digit, spelled_length, spelled_odd}
-use borrow.Author.Rules.{rules}
 use Rattle.hex_reading.proofs.records.byte_in.Goals as goal
 
 pub returns-then-body-k : goal.returns-then-body-k

@@ -5,7 +5,6 @@ use Rattle.words.specs.Tests.{◌&◌}
 use Rattle.intel_hex.specs.Records.{whole}
 use Rattle.intel_hex.proofs.Bounds.{spelled_byte}
 use Rattle.intel_hex.proofs.Finding.{spelled_length}
-use borrow.Author.Rules.{rules}
 use Rattle.hex_reading.proofs.records.whole.Goals as goal
 
 pub overflow_add-n : goal.overflow_add-n

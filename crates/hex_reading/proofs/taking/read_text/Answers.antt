@@ -1,14 +1,10 @@
 -- `hex_reading::taking::read_text` meets its contract: what the lines from `at` on give, after those taken, decides the whole.
-use mathlib.Core.Path.{◌≡◌, refl, ap, sym, ◌∙◌}
-use Prim.Native.Nat.{◌+◌, ◌-◌, ◌≤◌}
+use mathlib.Core.Path.{refl, ap, sym, ◌∙◌}
 use native.Mathlib.Omega.{arith}
-use lib.ListN.{drop, length, length-drop}
-use Rattle.words.specs.Sizes.{state_length}
-use Rattle.intel_hex.specs.Lines.{lines_of}
+use lib.ListN.{drop, length-drop}
 use Rattle.intel_hex.specs.Reading.{Given, lines_taken, read_lines}
 use Rattle.intel_hex.proofs.Finding.{line_ahead, line_fits}
 use Rattle.intel_hex.proofs.Steps.{line_and_rest, line_bad, line_on, line_over, lines_none, taken_bad, taken_none, taken_on, taken_over}
-use borrow.Author.Rules.{rules}
 use Rattle.hex_reading.proofs.taking.read_text.Goals as goal
 
 pub loop-at-init : goal.loop-at-init

@@ -1,14 +1,10 @@
 -- `hex_reading::taking::read_text` meets its contract: what the lines from `at` on give, after those taken, decides the whole.
-use mathlib.Core.Path.{◌≡◌, refl, ap, sym, ◌∙◌}
+use mathlib.Core.Path.{◌≡◌}
 use Prim.Native.Nat.{◌+◌, ◌-◌, ◌≤◌}
-use native.Mathlib.Omega.{arith}
-use lib.ListN.{drop, length, length-drop}
+use lib.ListN.{drop, length}
 use Rattle.words.specs.Sizes.{state_length}
 use Rattle.intel_hex.specs.Lines.{lines_of}
-use Rattle.intel_hex.specs.Reading.{Given, lines_taken, read_lines}
-use Rattle.intel_hex.proofs.Finding.{line_ahead, line_fits}
-use Rattle.intel_hex.proofs.Steps.{line_and_rest, line_bad, line_on, line_over, lines_none, taken_bad, taken_none, taken_on, taken_over}
-use borrow.Author.Rules.{rules}
+use Rattle.intel_hex.specs.Reading.{lines_taken, read_lines}
 use Rattle.hex_reading.proofs.taking.read_text.Given as goal
 
 abbrev pub invariant-loop-at : goal.invariant-loop-at

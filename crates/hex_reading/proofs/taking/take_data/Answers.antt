@@ -2,13 +2,11 @@
 use mathlib.Core.Path.{sym, ◌∙◌}
 use native.Mathlib.Omega.{arith}
 use lib.ListN.{drop}
-use borrow.Author.Tests.{not-true, not-false}
 use Rattle.intel_hex.specs.Lines.{spelled_by}
 use Rattle.intel_hex.specs.Records.{data_in}
 use Rattle.intel_hex.proofs.Bounds.{spelled_byte}
 use Rattle.intel_hex.proofs.CellLaws.{length_placed}
 use Rattle.intel_hex.proofs.Steps.{data_beyond, data_other, data_placed, data_twice, whole_length}
-use borrow.Author.Rules.{rules}
 use Rattle.hex_reading.proofs.taking.take_data.Goals as goal
 
 pub returns-then-upper-ne-STATE_UPPER : goal.returns-then-upper-ne-STATE_UPPER

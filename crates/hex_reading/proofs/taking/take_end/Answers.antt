@@ -1,6 +1,5 @@
 -- `hex_reading::taking::take_end` meets its contract.
 use Rattle.intel_hex.specs.Reading.{end_step}
-use borrow.Author.Rules.{rules}
 use Rattle.hex_reading.proofs.taking.take_end.Goals as goal
 
 pub returns-then-full : goal.returns-then-full

@@ -1,10 +1,8 @@
 -- `hex_reading::taking::take_line` meets its contract.
 use mathlib.Core.Path.{sym, ◌∙◌}
-use borrow.Author.Tests.{not-true, not-false}
 use Rattle.words.specs.Tests.{◌&◌}
 use Rattle.intel_hex.specs.Lines.{readable}
 use Rattle.intel_hex.specs.Reading.{line_step}
-use borrow.Author.Rules.{rules}
 use Rattle.hex_reading.proofs.taking.take_line.Goals as goal
 
 pub returns-then-not-ended : goal.returns-then-not-ended

@@ -2,7 +2,6 @@
 use native.Mathlib.Omega.{arith}
 use borrow.Author.Tests.{ne_eqb}
 use Rattle.intel_hex.specs.Reading.{record_step}
-use borrow.Author.Rules.{rules}
 use Rattle.hex_reading.proofs.taking.take_record.Goals as goal
 
 pub returns-in-0 : goal.returns-in-0

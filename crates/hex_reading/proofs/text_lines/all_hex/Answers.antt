@@ -1,10 +1,6 @@
 -- `hex_reading::text_lines::all_hex` meets its contract: as long as there are digits, what follows decides.
-use mathlib.Core.Path.{◌≡◌, refl, sym, ◌∙◌}
-use Prim.Native.Nat.{◌-◌}
-use lib.ListN.{drop, length}
-use Rattle.intel_hex.specs.Pairs.{all_hex}
+use mathlib.Core.Path.{refl, sym, ◌∙◌}
 use Rattle.intel_hex.proofs.Finding.{hex_more, hex_none, hex_not}
-use borrow.Author.Rules.{rules}
 use Rattle.hex_reading.proofs.text_lines.all_hex.Goals as goal
 
 pub loop-i-init : goal.loop-i-init

@@ -1,10 +1,8 @@
 -- `hex_reading::text_lines::all_hex` meets its contract: as long as there are digits, what follows decides.
-use mathlib.Core.Path.{◌≡◌, refl, sym, ◌∙◌}
+use mathlib.Core.Path.{◌≡◌}
 use Prim.Native.Nat.{◌-◌}
 use lib.ListN.{drop, length}
 use Rattle.intel_hex.specs.Pairs.{all_hex}
-use Rattle.intel_hex.proofs.Finding.{hex_more, hex_none, hex_not}
-use borrow.Author.Rules.{rules}
 use Rattle.hex_reading.proofs.text_lines.all_hex.Given as goal
 
 abbrev pub invariant-loop-i : goal.invariant-loop-i

@@ -3,7 +3,6 @@ use mathlib.Core.Path.{sym}
 use native.Mathlib.Omega.{arith}
 use lib.Seq.{length-take-le}
 use Rattle.intel_hex.proofs.Finding.{body_nothing, body_one, body_plain, body_returned}
-use borrow.Author.Rules.{rules}
 use Rattle.hex_reading.proofs.text_lines.body.Goals as goal
 
 pub returns-then-line-eq0 : goal.returns-then-line-eq0

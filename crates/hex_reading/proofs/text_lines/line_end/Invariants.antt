@@ -1,11 +1,8 @@
 -- `hex_reading::text_lines::line_end` meets its contract: the line from `i` on ends where the whole does.
-use mathlib.Core.Path.{◌≡◌, refl, sym, ◌∙◌}
+use mathlib.Core.Path.{◌≡◌}
 use Prim.Native.Nat.{◌+◌, ◌-◌, ◌≤◌}
-use native.Mathlib.Omega.{arith}
 use lib.ListN.{drop, length}
 use Rattle.intel_hex.specs.Lines.{line_length}
-use Rattle.intel_hex.proofs.Finding.{line_feed_lem, line_more, line_none}
-use borrow.Author.Rules.{rules}
 use Rattle.hex_reading.proofs.text_lines.line_end.Given as goal
 
 abbrev pub invariant-loop-i : goal.invariant-loop-i

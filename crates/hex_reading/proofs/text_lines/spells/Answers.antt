@@ -1,11 +1,10 @@
 -- `hex_reading::text_lines::spells` meets its contract.
-use borrow.Author.Tests.{eq-eqb, ne_eqb, not-true, not-false}
+use borrow.Author.Tests.{eq-eqb, ne_eqb}
 use mathlib.Core.Path.{sym}
 use lib.ListN.{length-drop}
 use Rattle.words.specs.Tests.{◌&◌}
 use Rattle.intel_hex.specs.Lines.{spells}
 use Rattle.intel_hex.proofs.Finding.{spells_none}
-use borrow.Author.Rules.{rules}
 use Rattle.hex_reading.proofs.text_lines.spells.Goals as goal
 
 pub returns-then-body-eq0 : goal.returns-then-body-eq0

@@ -1,7 +1,6 @@
 -- `hex_writing::putting::check_byte` meets its contract.
 use native.Mathlib.Omega.{arith}
 use Rattle.intel_hex.specs.Records.{sum_of}
-use borrow.Author.Rules.{rules}
 use Rattle.hex_writing.proofs.putting.check_byte.Goals as goal
 
 pub returns : goal.returns

@@ -3,7 +3,6 @@ use native.Mathlib.Omega.{arith}
 use lib.ListN.{length-set}
 use Rattle.intel_hex.specs.Pairs.{spelled}
 use Rattle.intel_hex.proofs.Putting.{two}
-use borrow.Author.Rules.{rules}
 use Rattle.hex_writing.proofs.putting.put_byte.Goals as goal
 
 pub bounds-part-at-2 : goal.bounds-part-at-2

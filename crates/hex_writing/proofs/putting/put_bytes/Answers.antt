@@ -1,15 +1,14 @@
 -- `hex_writing::putting::put_bytes` meets its contract: the bytes passed are spelled, and behind them stands what was there.
 use mathlib.Core.Bool.{true}
 use mathlib.Core.List.{List, [], ◌∷◌}
-use mathlib.Core.Path.{◌≡◌, refl, ap, ◌∙◌}
-use Prim.Native.Nat.{ℕ, ◌+◌, ◌*◌, ◌-◌, ◌≤◌}
+use mathlib.Core.Path.{refl, ap, ◌∙◌}
+use Prim.Native.Nat.{ℕ, ◌+◌, ◌*◌}
 use native.Mathlib.Omega.{arith}
-use lib.ListN.{get_or, length, take}
+use lib.ListN.{get_or}
 use lib.Seq.{take_all}
 use Rattle.state.specs.State.{splice}
 use Rattle.intel_hex.specs.Pairs.{spelled}
 use Rattle.intel_hex.proofs.Putting.{put_more, put_none}
-use borrow.Author.Rules.{rules}
 use Rattle.hex_writing.proofs.putting.put_bytes.Goals as goal
 
 pub loop-i-init : goal.loop-i-init

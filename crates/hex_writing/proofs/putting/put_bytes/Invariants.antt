@@ -1,15 +1,10 @@
 -- `hex_writing::putting::put_bytes` meets its contract: the bytes passed are spelled, and behind them stands what was there.
 use mathlib.Core.Bool.{true}
-use mathlib.Core.List.{List, [], ◌∷◌}
-use mathlib.Core.Path.{◌≡◌, refl, ap, ◌∙◌}
-use Prim.Native.Nat.{ℕ, ◌+◌, ◌*◌, ◌-◌, ◌≤◌}
-use native.Mathlib.Omega.{arith}
-use lib.ListN.{get_or, length, take}
-use lib.Seq.{take_all}
+use mathlib.Core.Path.{◌≡◌}
+use Prim.Native.Nat.{◌-◌, ◌≤◌}
+use lib.ListN.{length, take}
 use Rattle.state.specs.State.{splice}
 use Rattle.intel_hex.specs.Pairs.{spelled}
-use Rattle.intel_hex.proofs.Putting.{put_more, put_none}
-use borrow.Author.Rules.{rules}
 use Rattle.hex_writing.proofs.putting.put_bytes.Given as goal
 
 abbrev pub invariant-loop-i : goal.invariant-loop-i

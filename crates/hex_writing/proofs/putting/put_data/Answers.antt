@@ -2,15 +2,14 @@
 use mathlib.Core.Bool.{true, false}
 use mathlib.Core.List.{List}
 use mathlib.Core.Path.{◌≡◌, refl, ap, ◌∙◌}
-use Prim.Native.Nat.{ℕ, ◌+◌, ◌*◌, ◌-◌, ◌≤◌}
+use Prim.Native.Nat.{ℕ, ◌+◌, ◌*◌, ◌-◌}
 use native.Mathlib.Omega.{arith}
-use lib.ListN.{drop, length, length-drop, length-take, take}
+use lib.ListN.{drop, length-drop, length-take, take}
 use Rattle.state.specs.State.{splice}
 use Rattle.intel_hex.specs.Marks.{data_line, data_type, piece_count, piece_length, upper_line}
 use Rattle.intel_hex.specs.Records.{record_of}
 use Rattle.intel_hex.specs.Writing.{data_lines, line_of, sixteens}
 use Rattle.intel_hex.proofs.Putting.{data_next, data_none}
-use borrow.Author.Rules.{rules}
 use Rattle.hex_writing.proofs.putting.put_data.Goals as goal
 
 pub loop-k-init : goal.loop-k-init

@@ -7,7 +7,6 @@ use Rattle.intel_hex.specs.Records.{record_of}
 use Rattle.intel_hex.specs.Writing.{line_of}
 use Rattle.intel_hex.proofs.Lengths.{length_line}
 use Rattle.intel_hex.proofs.Putting.{lent}
-use borrow.Author.Rules.{rules}
 use Rattle.hex_writing.proofs.putting.put_line.Goals as goal
 
 pub returns : goal.returns

@@ -2,7 +2,6 @@
 use native.Mathlib.Omega.{arith}
 use lib.ListN.{length-set}
 use Rattle.intel_hex.proofs.Putting.{line_put}
-use borrow.Author.Rules.{rules}
 use Rattle.hex_writing.proofs.putting.put_record.Goals as goal
 
 pub put_bytes-requires : goal.put_bytes-requires

@@ -1,13 +1,11 @@
 -- `hex_writing::putting::sum_of` meets its contract: the sum so far, modulo 256.
 use mathlib.Core.List.{List}
-use mathlib.Core.Path.{◌≡◌, refl, ap, ◌∙◌}
-use Prim.Native.Nat.{ℕ, ◌%◌, ◌-◌, ◌≤◌}
+use mathlib.Core.Path.{refl, ap, ◌∙◌}
+use Prim.Native.Nat.{ℕ, ◌%◌}
 use native.Mathlib.Omega.{arith}
-use lib.ListN.{length, take}
 use lib.Seq.{take_all}
 use Rattle.intel_hex.specs.Records.{sum_of}
 use Rattle.intel_hex.proofs.RecordLaws.{sum_more}
-use borrow.Author.Rules.{rules}
 use Rattle.hex_writing.proofs.putting.sum_of.Goals as goal
 
 pub loop-i-init : goal.loop-i-init

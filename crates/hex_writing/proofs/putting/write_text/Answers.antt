@@ -1,7 +1,6 @@
 -- `hex_writing::putting::write_text` meets its contract: the three parts, one behind the other, are the text.
 use native.Mathlib.Omega.{arith}
 use Rattle.intel_hex.proofs.Putting.{text_done}
-use borrow.Author.Rules.{rules}
 use Rattle.hex_writing.proofs.putting.write_text.Goals as goal
 
 pub put_line-requires : goal.put_line-requires

@@ -1,18 +1,10 @@
 -- `judging_deletions::children::has_children` meets its contract: no entry passed and no table passed holds a child, and the first one that does ends the search.
-use mathlib.Core.Path.{◌≡◌, refl, sym, ap, subst, ◌∙◌}
+use mathlib.Core.Path.{◌≡◌}
 use mathlib.Core.Bool.{false}
-use mathlib.Core.Logic.{⊎_elim}
-use Prim.Native.Nat.{ℕ, ◌-◌, ◌≤◌}
-use native.Mathlib.Numerals.{add-one}
-use native.Mathlib.Omega.{arith}
-use borrow.Author.Rules.{rules}
-use Rattle.state.specs.Read.{read}
-use Rattle.state.specs.State.{entries_in}
-use Rattle.words.specs.Fields.{slot}
+use Prim.Native.Nat.{◌-◌, ◌≤◌}
 use Rattle.words.specs.Sizes.{slot_count}
 use Rattle.words.specs.Tests.{any_below}
-use Rattle.words.proofs.Tests.{any_zero, any_more}
-use Rattle.judging_deletions.proofs.ChildSearch.{child_at, child_in, few_entries, child_here, none_left, one_found}
+use Rattle.judging_deletions.proofs.ChildSearch.{child_at, child_in}
 use Rattle.judging_deletions.proofs.children.has_children.Given as goal
 
 abbrev pub invariant-loop-e : goal.invariant-loop-e

@@ -1,6 +1,4 @@
 -- `judging_deletions::deletions::after_type` meets its contract: each return rewrites with the steps that led there.
-use borrow.Author.Tests.{not-false, not-true}
-use borrow.Author.Rules.{rules}
 use Rattle.words.specs.Try.{◌>>=◌, ◌>>◌, need}
 use Rattle.judging_deletions.specs.Deletions.{after_type}
 use Rattle.judging_deletions.proofs.deletions.after_type.Goals as goal

@@ -1,5 +1,4 @@
 -- `judging_deletions::deletions::table_to_delete` meets its contract: each return rewrites with the steps that led there.
-use borrow.Author.Rules.{rules}
 use Rattle.judging_deletions.specs.Deletions.{after_type}
 use Rattle.words.specs.Try.{◌>>=◌, ◌>>◌, need}
 use Rattle.rules.specs.Places.{to_delete}

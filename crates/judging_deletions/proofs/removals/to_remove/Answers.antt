@@ -1,5 +1,4 @@
 -- `judging_deletions::removals::to_remove` meets its contract: each return rewrites with the steps that led there.
-use borrow.Author.Rules.{rules}
 use Rattle.words.specs.Try.{◌>>=◌, ◌>>◌, need}
 use Rattle.rules.specs.Places.{to_remove}
 use Rattle.judging_deletions.proofs.removals.to_remove.Goals as goal

@@ -1,10 +1,9 @@
 -- `judging_deletions::users::has_users` meets its contract: no slot passed holds a user, and the first one that does ends the search.
 use mathlib.Core.Path.{◌≡◌, refl, sym, ap, subst, ◌∙◌}
 use mathlib.Core.Bool.{false}
-use Prim.Native.Nat.{ℕ, ◌-◌, ◌≤◌}
+use Prim.Native.Nat.{ℕ}
 use native.Mathlib.Numerals.{add-one}
 use native.Mathlib.Omega.{arith}
-use borrow.Author.Rules.{rules}
 use Rattle.state.specs.Read.{read}
 use Rattle.state.specs.State.{obj_at}
 use Rattle.words.specs.Sizes.{slot_count}

@@ -1,17 +1,9 @@
 -- `judging_deletions::users::has_users` meets its contract: no slot passed holds a user, and the first one that does ends the search.
-use mathlib.Core.Path.{◌≡◌, refl, sym, ap, subst, ◌∙◌}
+use mathlib.Core.Path.{◌≡◌}
 use mathlib.Core.Bool.{false}
-use Prim.Native.Nat.{ℕ, ◌-◌, ◌≤◌}
-use native.Mathlib.Numerals.{add-one}
-use native.Mathlib.Omega.{arith}
-use borrow.Author.Rules.{rules}
-use Rattle.state.specs.Read.{read}
-use Rattle.state.specs.State.{obj_at}
+use Prim.Native.Nat.{◌-◌, ◌≤◌}
 use Rattle.words.specs.Sizes.{slot_count}
 use Rattle.words.specs.Tests.{any_below}
-use Rattle.words.proofs.Tests.{any_zero, any_more, any_found}
-use Rattle.rules.specs.Places.{has_users, is_user_of}
-use Rattle.judging_deletions.specs.Names.{Slot}
 use Rattle.judging_deletions.proofs.UserSearch.{user_at}
 use Rattle.judging_deletions.proofs.users.has_users.Given as goal
 

@@ -1,7 +1,6 @@
 -- `judging_deletions::users::is_user` meets its contract: the tag tells a process, and its two names are compared.
 use mathlib.Core.Path.{sym, ◌∙◌}
 use borrow.Author.Tests.{eq-eqb, ne_eqb}
-use borrow.Author.Rules.{rules}
 use Rattle.state.specs.Read.{read}
 use Rattle.state.specs.State.{obj_at}
 use Rattle.words.specs.Tests.{◌or◌}

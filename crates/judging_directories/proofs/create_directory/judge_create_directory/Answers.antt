@@ -1,5 +1,4 @@
 -- `judging_directories::create_directory::judge_create_directory` meets its contract: each return rewrites with the steps that led there; a memory right of a well-formed state lies in kernel memory.
-use borrow.Author.Rules.{rules}
 use Rattle.passed.proofs.Stand.{memory_found}
 use Rattle.judging_directories.specs.Shaping.{shape_and_place}
 use Rattle.words.specs.Try.{◌>>=◌, ◌>>◌, need}

@@ -1,7 +1,5 @@
 -- `judging_directories::create_directory::shape_and_place` meets its contract: each return rewrites with the steps that led there.
 use mathlib.Core.Path.{sym, ◌∙◌}
-use borrow.Author.Tests.{not-false, not-true}
-use borrow.Author.Rules.{rules}
 use Rattle.rules.proofs.Facts.{number_few}
 use Rattle.words.specs.Try.{◌>>=◌, ◌>>◌, need}
 use Rattle.judging_directories.specs.Shaping.{shape_and_place}

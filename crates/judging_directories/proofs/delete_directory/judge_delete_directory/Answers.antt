@@ -1,5 +1,4 @@
 -- `judging_directories::delete_directory::judge_delete_directory` meets its contract: each return rewrites with the steps that led there.
-use borrow.Author.Rules.{rules}
 use Rattle.words.specs.Try.{◌>>=◌, ◌>>◌, need}
 use Rattle.rules.specs.Calls.{delete_directory}
 use Rattle.judging_directories.proofs.delete_directory.judge_delete_directory.Goals as goal

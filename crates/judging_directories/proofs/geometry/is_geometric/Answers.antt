@@ -1,6 +1,5 @@
 -- `judging_directories::geometry::is_geometric` meets its contract: each return rewrites with the tests that led there.
 use borrow.Author.Tests.{le-leb, lt-leb}
-use borrow.Author.Rules.{rules}
 use Rattle.words.specs.Tests.{◌&◌}
 use Rattle.rules.specs.WellFormed.{geometric}
 use Rattle.judging_directories.proofs.geometry.is_geometric.Goals as goal

@@ -1,5 +1,4 @@
 -- `judging_directories::geometry::shape_asked` meets its contract: the fields are the code's, and the flag is bit 0.
-use borrow.Author.Rules.{rules}
 use Rattle.judging_directories.proofs.geometry.shape_asked.Goals as goal
 
 pub returns : goal.returns

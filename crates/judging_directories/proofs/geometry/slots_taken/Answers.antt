@@ -4,7 +4,6 @@ use Prim.Native.Nat.{◌^◌, ◌≤◌, ◌<◌}
 use native.Mathlib.Omega.{arith}
 use native.Mathlib.Nat.{one-mul, mod-eq_of_lt}
 use lib.Pow.{pow_mono}
-use borrow.Author.Rules.{rules}
 use Rattle.judging_directories.proofs.geometry.slots_taken.Goals as goal
 
 pub overflow_mul-result : goal.overflow_mul-result

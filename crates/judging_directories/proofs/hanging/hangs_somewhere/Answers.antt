@@ -1,14 +1,12 @@
 -- `judging_directories::hanging::hangs_somewhere` meets its contract: no position passed and no directory passed holds this one, and the first one that does ends the search.
 use mathlib.Core.Path.{◌≡◌, refl, sym, ap, subst, ◌∙◌}
 use mathlib.Core.Bool.{false}
-use Prim.Native.Nat.{ℕ, ◌-◌, ◌≤◌}
+use Prim.Native.Nat.{ℕ}
 use native.Mathlib.Numerals.{add-one}
 use native.Mathlib.Omega.{arith}
-use borrow.Author.Rules.{rules}
 use Rattle.state.specs.Read.{read}
 use Rattle.state.specs.State.{positions_in}
 use Rattle.words.specs.Fields.{slot}
-use Rattle.words.specs.Sizes.{slot_count}
 use Rattle.words.specs.Tests.{any_below}
 use Rattle.words.proofs.Tests.{any_zero, any_more}
 use Rattle.judging_directories.proofs.Search.{this_at, this_in, few_at, this_here, none_left, one_found}

@@ -1,6 +1,5 @@
 -- `judging_directories::hanging::holds_this` meets its contract: the position is the one that starts at its byte of the part.
 use mathlib.Core.Path.{ap, ◌∙◌}
-use borrow.Author.Rules.{rules}
 use Rattle.rules.specs.Calls.{is_child_at}
 use Rattle.judging_directories.proofs.hanging.holds_this.Goals as goal
 

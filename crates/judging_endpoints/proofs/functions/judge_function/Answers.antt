@@ -1,6 +1,5 @@
 -- `judging_endpoints::functions::judge_function` meets its contract: each return rewrites with the steps that led there.
 use borrow.Author.Tests.{eq-eqb, le-leb, lt-leb, ne_eqb}
-use borrow.Author.Rules.{rules}
 use Rattle.words.specs.Tests.{◌&◌}
 use Rattle.rules.specs.Calls.{function}
 use Rattle.words.specs.Try.{◌>>=◌, ◌>>◌, need}

@@ -1,8 +1,6 @@
 -- `judging_endpoints::receive::judge_receive` meets its contract: each return rewrites with the steps that led there.
 use mathlib.Core.Path.{sym, ◌∙◌}
 use native.Mathlib.Omega.{arith}
-use borrow.Author.Tests.{not-false, not-true}
-use borrow.Author.Rules.{rules}
 use Rattle.judging_endpoints.proofs.Options.{option_few}
 use Rattle.judging_endpoints.specs.Taken.{taken}
 use Rattle.rules.specs.Calls.{receive}

@@ -1,5 +1,4 @@
 -- `judging_endpoints::receive::taken` meets its contract: by what its readers promise.
-use borrow.Author.Rules.{rules}
 use Rattle.judging_endpoints.specs.Taken.{taken}
 use Rattle.judging_endpoints.proofs.receive.taken.Goals as goal
 

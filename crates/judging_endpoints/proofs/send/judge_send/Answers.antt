@@ -1,6 +1,5 @@
 -- `judging_endpoints::send::judge_send` meets its contract: each return rewrites with the steps that led there.
 use borrow.Author.Tests.{le-ltb, lt-ltb}
-use borrow.Author.Rules.{rules}
 use Rattle.rules.specs.Calls.{send}
 use Rattle.words.specs.Try.{◌>>=◌, ◌>>◌, need}
 use Rattle.judging_endpoints.proofs.send.judge_send.Goals as goal

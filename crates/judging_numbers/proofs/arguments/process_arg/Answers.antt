@@ -1,6 +1,4 @@
 -- `judging_numbers::arguments::process_arg` meets its contract: each return rewrites with the steps that led there.
-use borrow.Author.Tests.{not-false, not-true}
-use borrow.Author.Rules.{rules}
 use Rattle.words.specs.Try.{◌>>=◌, ◌>>◌, need}
 use Rattle.rules.specs.Numbers.{argument}
 use Rattle.judging_numbers.proofs.arguments.process_arg.Goals as goal

@@ -1,6 +1,5 @@
 -- `judging_numbers::callers::caller_slot` meets its contract: each return rewrites with the test that led there.
 use borrow.Author.Tests.{le-ltb, lt-ltb}
-use borrow.Author.Rules.{rules}
 use Rattle.words.specs.Try.{◌>>◌, need}
 use Rattle.judging_numbers.specs.Callers.{caller_slot}
 use Rattle.judging_numbers.proofs.callers.caller_slot.Goals as goal

@@ -1,5 +1,4 @@
 -- `judging_numbers::callers::caller_table` meets its contract: each return rewrites with the steps that led there.
-use borrow.Author.Rules.{rules}
 use Rattle.words.specs.Try.{◌>>=◌}
 use Rattle.judging_numbers.proofs.CallerTable.{caller_steps}
 use Rattle.judging_numbers.proofs.callers.caller_table.Goals as goal

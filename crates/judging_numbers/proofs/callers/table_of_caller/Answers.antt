@@ -1,6 +1,5 @@
 -- `judging_numbers::callers::table_of_caller` meets its contract: the tag tells whether a process stands in the caller's slot.
 use mathlib.Core.Path.{sym, ◌∙◌}
-use borrow.Author.Rules.{rules}
 use Rattle.state.specs.Read.{read}
 use Rattle.state.specs.State.{obj_at}
 use Rattle.judging_numbers.proofs.CallerTable.{caller_known, caller_none}

@@ -1,5 +1,4 @@
 -- `judging_numbers::kinds::as_directory_object` meets its contract: each return rewrites with the steps that led there.
-use borrow.Author.Rules.{rules}
 use Rattle.words.specs.Try.{◌>>=◌}
 use Rattle.rules.specs.Calls.{as_directory_object}
 use Rattle.judging_numbers.proofs.kinds.as_directory_object.Goals as goal

@@ -1,5 +1,4 @@
 -- `judging_numbers::kinds::as_function` meets its contract: in each arm the constructor tells the answer.
-use borrow.Author.Rules.{rules}
 use Rattle.rules.specs.Numbers.{as_function}
 use Rattle.judging_numbers.proofs.kinds.as_function.Goals as goal
 

@@ -1,5 +1,4 @@
 -- `judging_numbers::kinds::as_process` meets its contract: in each arm the constructor tells the answer.
-use borrow.Author.Rules.{rules}
 use Rattle.rules.specs.Numbers.{as_process}
 use Rattle.judging_numbers.proofs.kinds.as_process.Goals as goal
 

@@ -1,6 +1,5 @@
 -- `judging_numbers::lookups::look_up` meets its contract: each return rewrites with the steps that led there.
 use borrow.Author.Tests.{le-ltb, lt-ltb}
-use borrow.Author.Rules.{rules}
 use Rattle.rules.specs.Numbers.{lookup}
 use Rattle.judging_numbers.proofs.lookups.look_up.Goals as goal
 

@@ -1,6 +1,5 @@
 -- `judging_numbers::lookups::right_at` meets its contract: each return rewrites with the steps that led there.
-use borrow.Author.Tests.{le-ltb, lt-ltb, not-false, not-true}
-use borrow.Author.Rules.{rules}
+use borrow.Author.Tests.{le-ltb, lt-ltb}
 use Rattle.words.specs.Try.{◌>>=◌, ◌>>◌, need}
 use Rattle.rules.specs.Numbers.{right_at}
 use Rattle.judging_numbers.proofs.lookups.right_at.Goals as goal

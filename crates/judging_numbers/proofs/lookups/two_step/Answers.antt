@@ -1,6 +1,5 @@
 -- `judging_numbers::lookups::two_step` meets its contract: each return rewrites with the steps that led there.
-use borrow.Author.Tests.{le-ltb, lt-ltb, not-false, not-true}
-use borrow.Author.Rules.{rules}
+use borrow.Author.Tests.{le-ltb, lt-ltb}
 use Rattle.words.specs.Tests.{◌&◌}
 use Rattle.words.specs.Try.{◌>>=◌, ◌>>◌, need}
 use Rattle.rules.specs.Numbers.{two_step}

@@ -1,6 +1,5 @@
 -- `judging_pages::construct::hang_under` meets its contract: each return rewrites with the steps that led there.
-use borrow.Author.Tests.{eq-eqb, le-ltb, lt-ltb, ne_eqb, not-false, not-true}
-use borrow.Author.Rules.{rules}
+use borrow.Author.Tests.{eq-eqb, le-ltb, lt-ltb, ne_eqb}
 use Rattle.rules.specs.Calls.{size_at}
 use Rattle.words.specs.Try.{◌>>=◌, ◌>>◌, need}
 use Rattle.judging_pages.specs.Hanging.{hang_under}

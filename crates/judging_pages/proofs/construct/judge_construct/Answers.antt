@@ -1,5 +1,4 @@
 -- `judging_pages::construct::judge_construct` meets its contract: each return rewrites with the steps that led there.
-use borrow.Author.Rules.{rules}
 use Rattle.judging_pages.specs.Hanging.{hang_under}
 use Rattle.words.specs.Try.{◌>>=◌, ◌>>◌, need}
 use Rattle.rules.specs.Calls.{construct}

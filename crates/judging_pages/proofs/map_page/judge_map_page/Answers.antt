@@ -1,5 +1,4 @@
 -- `judging_pages::map_page::judge_map_page` meets its contract: each return rewrites with the steps that led there.
-use borrow.Author.Rules.{rules}
 use Rattle.judging_pages.specs.Mapping.{map_addressed, map_in_range}
 use Rattle.words.specs.Try.{◌>>=◌, ◌>>◌, need}
 use Rattle.rules.specs.Calls.{map_page}

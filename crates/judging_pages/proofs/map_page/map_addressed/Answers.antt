@@ -1,7 +1,6 @@
 -- `judging_pages::map_page::map_addressed` meets its contract: each return rewrites with the steps that led there.
 use mathlib.Core.Path.{sym, ◌∙◌}
-use borrow.Author.Tests.{ltb-true, not-false, le-leb, le-ltb, lt-leb, lt-ltb, not-true}
-use borrow.Author.Rules.{rules}
+use borrow.Author.Tests.{ltb-true, le-leb, le-ltb, lt-leb, lt-ltb}
 use Rattle.rules.specs.Calls.{size_at}
 use Rattle.words.specs.Tests.{◌&◌}
 use Rattle.words.specs.Try.{◌>>=◌, ◌>>◌, need}

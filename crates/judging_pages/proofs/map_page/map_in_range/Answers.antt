@@ -1,7 +1,6 @@
 -- `judging_pages::map_page::map_in_range` meets its contract: each return rewrites with the steps that led there.
 use mathlib.Core.Path.{sym, ap, ◌∙◌}
-use borrow.Author.Tests.{eq-eqb, ne_eqb, not-false, not-true}
-use borrow.Author.Rules.{rules}
+use borrow.Author.Tests.{eq-eqb, ne_eqb}
 use Rattle.rules.specs.Calls.{size_at, as_page}
 use Rattle.state.specs.Read.{read}
 use Rattle.words.specs.Answers.{told_frame}

@@ -3,7 +3,6 @@ use Prim.Native.Nat.{◌^◌, ◌≤◌, ◌<◌}
 use native.Mathlib.Omega.{arith}
 use native.Mathlib.Nat.{one-mul, mod-eq_of_lt}
 use lib.Pow.{pow_mono}
-use borrow.Author.Rules.{rules}
 use Rattle.judging_pages.proofs.pages.frame_in.Goals as goal
 
 pub overflow_mul-result : goal.overflow_mul-result

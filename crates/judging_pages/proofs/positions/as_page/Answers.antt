@@ -1,5 +1,4 @@
 -- `judging_pages::positions::as_page` meets its contract: in each arm the constructor tells the answer.
-use borrow.Author.Rules.{rules}
 use Rattle.judging_pages.proofs.positions.as_page.Goals as goal
 
 pub returns-in-Empty : goal.returns-in-Empty

@@ -1,6 +1,5 @@
 -- `judging_pages::remove_page::judge_remove_page` meets its contract: each return rewrites with the steps that led there.
-use borrow.Author.Tests.{le-ltb, lt-ltb, not-false, not-true}
-use borrow.Author.Rules.{rules}
+use borrow.Author.Tests.{le-ltb, lt-ltb}
 use Rattle.words.specs.Try.{◌>>=◌, ◌>>◌, need}
 use Rattle.rules.specs.Calls.{remove_page}
 use Rattle.judging_pages.proofs.remove_page.judge_remove_page.Goals as goal

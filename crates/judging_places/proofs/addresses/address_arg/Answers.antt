@@ -1,6 +1,5 @@
 -- `judging_places::addresses::address_arg` meets its contract: each return rewrites with the tests that led there; an address in the right lies in kernel memory.
-use Rattle.std.proofs.Common.{sym, ◌∙◌, arith, rules}
-use borrow.Author.Tests.{not-true, not-false}
+use Rattle.std.proofs.Common.{sym, ◌∙◌, arith}
 use Rattle.rules.specs.Addresses.{address_arg}
 use Rattle.words.specs.Try.{◌>>=◌, ◌>>◌, need}
 use Rattle.judging_places.proofs.Lying.{lies_open}

@@ -1,5 +1,5 @@
 -- `judging_places::addresses::lies_in` meets its contract: each return rewrites with the tests that led there.
-use Rattle.std.proofs.Common.{rules, eq-eqb, ne_eqb, le-leb}
+use Rattle.std.proofs.Common.{eq-eqb, ne_eqb, le-leb}
 use borrow.Author.Tests.{lt-leb}
 use Rattle.words.specs.Tests.{◌&◌}
 use Rattle.judging_places.proofs.addresses.lies_in.Goals as goal

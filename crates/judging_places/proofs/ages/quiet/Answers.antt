@@ -1,5 +1,5 @@
 -- `judging_places::ages::quiet` meets its contract: each return rewrites with the steps that led there.
-use Rattle.std.proofs.Common.{rules, le-leb}
+use Rattle.std.proofs.Common.{le-leb}
 use borrow.Author.Tests.{lt-leb}
 use Rattle.words.specs.Try.{need}
 use Rattle.rules.specs.Places.{quiet}

@@ -1,5 +1,4 @@
 -- `judging_places::places::frozen_at` meets its contract: each return rewrites with the steps that led there.
-use Rattle.std.proofs.Common.{rules}
 use Rattle.words.specs.Try.{◌>>=◌, ◌>>◌, need}
 use Rattle.rules.specs.Places.{frozen_at}
 use Rattle.judging_places.proofs.places.frozen_at.Goals as goal

@@ -1,6 +1,4 @@
 -- `judging_places::places::thawed_at` meets its contract: each return rewrites with the steps that led there.
-use borrow.Author.Tests.{not-false, not-true}
-use Rattle.std.proofs.Common.{rules}
 use Rattle.words.specs.Try.{◌>>=◌, ◌>>◌, need}
 use Rattle.rules.specs.Places.{thawed_at}
 use Rattle.judging_places.proofs.places.thawed_at.Goals as goal

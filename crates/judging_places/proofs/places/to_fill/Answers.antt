@@ -1,6 +1,5 @@
 -- `judging_places::places::to_fill` meets its contract: each return rewrites with the steps that led there.
-use Rattle.std.proofs.Common.{rules, le-ltb, lt-ltb}
-use borrow.Author.Tests.{not-false, not-true}
+use Rattle.std.proofs.Common.{le-ltb, lt-ltb}
 use Rattle.words.specs.Try.{◌>>=◌, ◌>>◌, need}
 use Rattle.rules.specs.Places.{to_fill}
 use Rattle.judging_places.proofs.places.to_fill.Goals as goal

@@ -1,5 +1,5 @@
 -- `judging_places::places::used_at` meets its contract: each return rewrites with the steps that led there.
-use Rattle.std.proofs.Common.{rules, le-ltb, lt-ltb}
+use Rattle.std.proofs.Common.{le-ltb, lt-ltb}
 use Rattle.words.specs.Try.{◌>>=◌, ◌>>◌, need}
 use Rattle.rules.specs.Places.{used_at}
 use Rattle.judging_places.proofs.places.used_at.Goals as goal

@@ -1,5 +1,4 @@
 -- `judging_processes::changes::judge_change_directory` meets its contract: each return rewrites with the steps that led there.
-use borrow.Author.Rules.{rules}
 use Rattle.rules.specs.Calls.{change_directory}
 use Rattle.words.specs.Try.{◌>>=◌, ◌>>◌}
 use Rattle.judging_processes.proofs.changes.judge_change_directory.Goals as goal

@@ -1,6 +1,5 @@
 -- `judging_processes::endpoints::judge_create_endpoint` meets its contract: each return rewrites with the steps that led there; the memory right lies in kernel memory.
 use native.Mathlib.Omega.{arith}
-use borrow.Author.Rules.{rules}
 use Rattle.passed.proofs.Stand.{memory_found}
 use Rattle.rules.specs.Calls.{create_endpoint}
 use Rattle.words.specs.Try.{◌>>=◌, ◌>>◌}

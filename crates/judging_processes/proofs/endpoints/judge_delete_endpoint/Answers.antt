@@ -1,5 +1,4 @@
 -- `judging_processes::endpoints::judge_delete_endpoint` meets its contract: each return rewrites with the steps that led there.
-use borrow.Author.Rules.{rules}
 use Rattle.rules.specs.Calls.{delete_endpoint}
 use Rattle.words.specs.Try.{◌>>=◌, ◌>>◌, need}
 use Rattle.judging_processes.proofs.endpoints.judge_delete_endpoint.Goals as goal

@@ -1,6 +1,5 @@
 -- `judging_processes::processes::judge_create_process` meets its contract: each return rewrites with the steps that led there; the memory right lies in kernel memory.
 use native.Mathlib.Omega.{arith}
-use borrow.Author.Rules.{rules}
 use Rattle.passed.proofs.Stand.{memory_found}
 use Rattle.rules.specs.Calls.{create_process}
 use Rattle.words.specs.Try.{◌>>=◌, ◌>>◌}

@@ -1,5 +1,4 @@
 -- `judging_processes::processes::judge_delete_process` meets its contract: each return rewrites with the steps that led there.
-use borrow.Author.Rules.{rules}
 use Rattle.rules.specs.Calls.{delete_process}
 use Rattle.words.specs.Try.{◌>>=◌, ◌>>◌}
 use Rattle.judging_processes.proofs.processes.judge_delete_process.Goals as goal

@@ -4,8 +4,7 @@ use mathlib.Core.Path.{sym, ◌∙◌, ◌≡◌}
 use Prim.Native.Nat.{ℕ, ◌≤◌}
 use native.Mathlib.Omega.{arith}
 use lib.Dec.{leb}
-use borrow.Author.Tests.{leb-true, not-false, not-true}
-use borrow.Author.Rules.{rules}
+use borrow.Author.Tests.{leb-true}
 use Rattle.passed.proofs.Stand.{memory_found}
 use Rattle.rules.specs.Calls.{create_table}
 use Rattle.words.proofs.Tests.{and_left, and_right}

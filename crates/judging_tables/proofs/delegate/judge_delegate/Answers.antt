@@ -1,6 +1,5 @@
 -- `judging_tables::delegate::judge_delegate` meets its contract: each return rewrites with the steps that led there.
 use native.Mathlib.Omega.{arith}
-use borrow.Author.Rules.{rules}
 use Rattle.rules.specs.Calls.{delegate}
 use Rattle.words.specs.Try.{◌>>=◌, ◌>>◌, need}
 use Rattle.judging_tables.proofs.delegate.judge_delegate.Goals as goal

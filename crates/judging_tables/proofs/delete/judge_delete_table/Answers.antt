@@ -1,6 +1,4 @@
 -- `judging_tables::delete::judge_delete_table` meets its contract: each return rewrites with the steps that led there.
-use borrow.Author.Rules.{rules}
-use borrow.Author.Tests.{not-false, not-true}
 use Rattle.rules.specs.Calls.{delete_table}
 use Rattle.words.specs.Try.{◌>>=◌, ◌>>◌, need}
 use Rattle.judging_tables.proofs.delete.judge_delete_table.Goals as goal

@@ -1,6 +1,5 @@
 -- `judging_tables::empty::is_blank_at` meets its contract: the entry is the one that starts at its byte of the part.
 use mathlib.Core.Path.{ap, ◌∙◌}
-use borrow.Author.Rules.{rules}
 use Rattle.words.specs.Rights.{is_blank}
 use Rattle.judging_tables.proofs.empty.is_blank_at.Goals as goal
 

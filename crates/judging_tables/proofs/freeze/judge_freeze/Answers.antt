@@ -1,5 +1,4 @@
 -- `judging_tables::freeze::judge_freeze` meets its contract: each return rewrites with the steps that led there.
-use borrow.Author.Rules.{rules}
 use Rattle.rules.specs.Calls.{freeze}
 use Rattle.words.specs.Try.{◌>>=◌, ◌>>◌, need}
 use Rattle.judging_tables.proofs.freeze.judge_freeze.Goals as goal

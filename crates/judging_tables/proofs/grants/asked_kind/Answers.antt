@@ -1,5 +1,4 @@
 -- `judging_tables::grants::asked_kind` meets its contract: in each arm the constructor tells the answer.
-use borrow.Author.Rules.{rules}
 use Rattle.judging_tables.proofs.grants.asked_kind.Goals as goal
 
 pub returns-in-Table : goal.returns-in-Table

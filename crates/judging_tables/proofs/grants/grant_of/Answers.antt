@@ -1,6 +1,4 @@
 -- `judging_tables::grants::grant_of` meets its contract: each return rewrites with the steps that led there.
-use borrow.Author.Rules.{rules}
-use borrow.Author.Tests.{not-false, not-true}
 use Rattle.rules.specs.Calls.{granted}
 use Rattle.words.specs.Tests.{◌&◌}
 use Rattle.words.specs.Try.{◌>>=◌, ◌>>◌, need}

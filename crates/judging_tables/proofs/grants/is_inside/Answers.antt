@@ -1,6 +1,5 @@
 -- `judging_tables::grants::is_inside` meets its contract: each return rewrites with the steps that led there.
 use borrow.Author.Tests.{eq-eqb, le-leb, lt-leb, ne_eqb}
-use borrow.Author.Rules.{rules}
 use Rattle.words.specs.Rights.{inside}
 use Rattle.words.specs.Tests.{◌&◌}
 use Rattle.judging_tables.proofs.grants.is_inside.Goals as goal

@@ -1,5 +1,4 @@
 -- `judging_tables::grants::some_flag` meets its contract: in each arm the constructor tells the answer.
-use borrow.Author.Rules.{rules}
 use Rattle.judging_tables.proofs.grants.some_flag.Goals as goal
 
 pub returns-in-Table : goal.returns-in-Table

@@ -1,5 +1,4 @@
 -- `judging_tables::grants::some_range` meets its contract: in each arm the constructor tells the answer.
-use borrow.Author.Rules.{rules}
 use Rattle.words.specs.Rights.{some_range}
 use Rattle.judging_tables.proofs.grants.some_range.Goals as goal
 

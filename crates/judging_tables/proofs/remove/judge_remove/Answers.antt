@@ -1,5 +1,4 @@
 -- `judging_tables::remove::judge_remove` meets its contract: each return rewrites with the steps that led there.
-use borrow.Author.Rules.{rules}
 use Rattle.rules.specs.Calls.{remove}
 use Rattle.words.specs.Try.{◌>>=◌, ◌>>◌, need}
 use Rattle.judging_tables.proofs.remove.judge_remove.Goals as goal

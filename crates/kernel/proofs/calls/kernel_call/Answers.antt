@@ -1,6 +1,5 @@
 -- `kernel::calls::kernel_call` meets its contract: by the check, what the plan is, and what its action leaves.
-use Rattle.std.proofs.Common.{◌≡◌, true, sym, ap, ◌∙◌, w32, rules}
-use borrow.Author.Tests.{not-true, not-false}
+use Rattle.std.proofs.Common.{◌≡◌, true, sym, ap, ◌∙◌, w32}
 use mir.ValLaws.{to_z-of_z}
 use Rattle.rules.specs.Buffer.{call_outcome, sound}
 use Rattle.rules.specs.Cases.{four}

@@ -1,5 +1,5 @@
 -- `kernel::grants::kernel_pack` meets its contract: by the room that is lent and what packing answers.
-use Rattle.std.proofs.Common.{w32, rules, le-leb}
+use Rattle.std.proofs.Common.{w32, le-leb}
 use borrow.Author.Tests.{lt-leb}
 use mir.ValLaws.{to_z-of_z}
 use Rattle.kernel.specs.Grants.{pack_result}

@@ -1,5 +1,5 @@
 -- `kernel::grants::kernel_unpack` meets its contract: by the room that is lent.
-use Rattle.std.proofs.Common.{arith, length-set, rules, le-leb}
+use Rattle.std.proofs.Common.{arith, length-set, le-leb}
 use borrow.Author.Tests.{lt-leb}
 use Rattle.kernel.specs.Grants.{unpack_result}
 use Rattle.kernel.proofs.Packings.{three_in_front}

@@ -1,5 +1,5 @@
 -- `kernel::runs::happen` meets its contract: a tick or a call, by the caller.
-use Rattle.std.proofs.Common.{w32, rules, eq-eqb, ne_eqb}
+use Rattle.std.proofs.Common.{w32, eq-eqb, ne_eqb}
 use mir.ValLaws.{to_z-of_z}
 use Rattle.rules.specs.Run.{happens}
 use Rattle.kernel.specs.Script.{event_from}

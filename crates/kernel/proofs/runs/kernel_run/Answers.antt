@@ -1,5 +1,5 @@
 -- `kernel::runs::kernel_run` meets its contract. The loop's invariant: the first i events have happened.
-use Rattle.std.proofs.Common.{◌≡◌, ℕ, suc, ◌+◌, ◌-◌, ◌/◌, ◌<◌, ◌≤◌, List, [], ◌∷◌, ◌++◌, length, drop, set, ℤ, sym, refl, ap, ◌∙◌, add-one, arith, w32, rules, eq-eqb, ne_eqb, le-leb}
+use Rattle.std.proofs.Common.{◌≡◌, ℕ, suc, ◌+◌, ◌/◌, ◌<◌, List, [], ◌∷◌, ◌++◌, length, drop, set, ℤ, sym, refl, ap, ◌∙◌, add-one, arith, w32, rules, eq-eqb, ne_eqb, le-leb}
 use borrow.Author.Tests.{lt-leb}
 use mir.ValLaws.{to_z-of_z}
 use Rattle.rules.specs.Run.{Replies, happens, run_outcome}

@@ -1,11 +1,7 @@
 -- `kernel::runs::kernel_run` meets its contract. The loop's invariant: the first i events have happened.
-use Rattle.std.proofs.Common.{◌≡◌, ℕ, suc, ◌+◌, ◌-◌, ◌/◌, ◌<◌, ◌≤◌, List, [], ◌∷◌, ◌++◌, length, drop, set, ℤ, sym, refl, ap, ◌∙◌, add-one, arith, w32, rules, eq-eqb, ne_eqb, le-leb}
-use borrow.Author.Tests.{lt-leb}
-use mir.ValLaws.{to_z-of_z}
-use Rattle.rules.specs.Run.{Replies, happens, run_outcome}
-use Rattle.state.specs.Read.{listed}
-use Rattle.kernel.specs.Script.{event_at, events_in, run_result}
-use Rattle.kernel.proofs.Scripts.{run_next, answer_next}
+use Rattle.std.proofs.Common.{◌≡◌, ◌-◌, ◌≤◌, ◌++◌, length, drop}
+use Rattle.rules.specs.Run.{run_outcome}
+use Rattle.kernel.specs.Script.{events_in}
 use Rattle.kernel.proofs.runs.kernel_run.Given as goal
 
 abbrev pub invariant-loop-i : goal.invariant-loop-i

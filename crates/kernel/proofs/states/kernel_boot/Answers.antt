@@ -1,5 +1,5 @@
 -- `kernel::states::kernel_boot` meets its contract: by the length, and what `store_boot` leaves.
-use Rattle.std.proofs.Common.{w32, rules, eq-eqb, ne_eqb}
+use Rattle.std.proofs.Common.{w32, eq-eqb, ne_eqb}
 use mir.ValLaws.{to_z-of_z}
 use Rattle.rules.specs.Buffer.{boot_outcome}
 use Rattle.kernel.proofs.states.kernel_boot.Goals as goal

@@ -1,6 +1,5 @@
 -- `kernel::states::kernel_tick` meets its contract: by the check, and what a stored clock leaves of the bytes.
-use Rattle.std.proofs.Common.{◌≡◌, true, sym, ◌∙◌, arith, w32, rules}
-use borrow.Author.Tests.{not-true, not-false}
+use Rattle.std.proofs.Common.{◌≡◌, true, sym, ◌∙◌, arith, w32}
 use mir.ValLaws.{to_z-of_z}
 use Rattle.rules.specs.Buffer.{tick_outcome, sound}
 use Rattle.kernel.proofs.Laws.{sound_long, tick_written}

@@ -1,7 +1,6 @@
 -- `lines::bytes::byte_at` meets its contract: past the end a list has the default.
 use mathlib.Core.Path.{sym}
 use lib.ListN.{get_or-eq_default}
-use borrow.Author.Rules.{rules}
 use Rattle.lines.proofs.bytes.byte_at.Goals as goal
 
 pub returns-else-at-text : goal.returns-else-at-text

@@ -1,5 +1,4 @@
 -- `lines::bytes::is` meets its contract: equal words are spelt alike, and only they.
-use borrow.Author.Rules.{rules}
 use Rattle.words.proofs.Tests.{iff}
 use Rattle.lines.proofs.Spelling.{same_equal, same_self}
 use Rattle.lines.proofs.bytes.is.Goals as goal

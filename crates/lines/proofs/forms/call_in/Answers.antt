@@ -1,5 +1,4 @@
 -- `lines::forms::call_in` meets its contract: the numbers read so far, and the one that decides.
-use borrow.Author.Rules.{rules}
 use borrow.Author.Tests.{eq-eqb, ne_eqb}
 use Rattle.lines.specs.Requests.{call_of, five_of}
 use Rattle.lines.proofs.forms.call_in.Goals as goal

@@ -1,5 +1,4 @@
 -- `lines::forms::tick_in` meets its contract.
-use borrow.Author.Rules.{rules}
 use borrow.Author.Tests.{eq-eqb, ne_eqb}
 use Rattle.lines.specs.Requests.{tick_of}
 use Rattle.lines.proofs.forms.tick_in.Goals as goal

@@ -4,7 +4,6 @@ use native.Mathlib.Omega.{arith}
 use Prim.Native.Nat.{◌≤◌}
 use lib.ListN.{length}
 use lib.Seq.{length-take-le, take_all}
-use borrow.Author.Rules.{rules}
 use Rattle.lines.proofs.gather.first.Goals as goal
 
 pub slice_bounds-result-end : goal.slice_bounds-result-end

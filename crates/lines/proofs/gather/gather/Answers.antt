@@ -1,5 +1,4 @@
 -- `lines::gather::gather` meets its contract.
-use borrow.Author.Rules.{rules}
 use borrow.Author.Tests.{eq-eqb, ne_eqb, lt-ltb, le-ltb}
 use Rattle.lines.specs.Gather.{gathered, stored}
 use Rattle.lines.proofs.gather.gather.Goals as goal

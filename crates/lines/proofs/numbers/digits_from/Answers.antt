@@ -1,13 +1,10 @@
 -- `lines::numbers::digits_from` meets its contract: what is left to read, after the value so far, decides the whole.
-use mathlib.Core.Path.{◌≡◌, sym, ◌∙◌}
-use Prim.Native.Nat.{◌-◌, ◌≤◌}
+use mathlib.Core.Path.{sym, ◌∙◌}
 use native.Mathlib.Nat.{mul-le-mul, min-le_right}
 use native.Mathlib.Omega.{arith}
-use lib.ListN.{length, drop}
-use borrow.Author.Rules.{rules}
 use borrow.Author.Tests.{le-leb, lt-leb}
 use Rattle.lines.proofs.Digits.{digits_more, digits_bad, digits_end, some_digits, no_digits}
-use Rattle.lines.specs.Numbers.{digits_of, number_in, sized}
+use Rattle.lines.specs.Numbers.{sized}
 use Rattle.lines.proofs.numbers.digits_from.Goals as goal
 
 pub returns-then-text-from : goal.returns-then-text-from

@@ -1,5 +1,4 @@
 -- `lines::numbers::number_in` meets its contract: its two tests are those of `hexadecimal`.
-use borrow.Author.Rules.{rules}
 use borrow.Author.Tests.{eq-eqb, ne_eqb}
 use Rattle.words.specs.Tests.{◌&◌}
 use Rattle.lines.specs.Numbers.{hexadecimal, number_of}

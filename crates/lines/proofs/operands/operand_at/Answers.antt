@@ -1,5 +1,4 @@
 -- `lines::operands::operand_at` meets its contract.
-use borrow.Author.Rules.{rules}
 use Rattle.lines.specs.Requests.{operand_at}
 use Rattle.lines.proofs.operands.operand_at.Goals as goal
 

@@ -1,6 +1,5 @@
 -- `lines::requests::asked_by` meets its contract: the tests that failed, and the one that decides.
 use native.Mathlib.Omega.{arith}
-use borrow.Author.Rules.{rules}
 use Rattle.digits.proofs.Classes.{above, below, inside}
 use Rattle.lines.specs.Requests.{asked_by}
 use Rattle.lines.proofs.requests.asked_by.Goals as goal

@@ -1,5 +1,4 @@
 -- `lines::requests::name_in` meets its contract.
-use borrow.Author.Rules.{rules}
 use Rattle.lines.specs.Requests.{name_in}
 use Rattle.lines.proofs.requests.name_in.Goals as goal
 

@@ -1,5 +1,4 @@
 -- `lines::requests::request_in` meets its contract.
-use borrow.Author.Rules.{rules}
 use Rattle.lines.specs.Requests.{request_of}
 use Rattle.lines.proofs.requests.request_in.Goals as goal
 

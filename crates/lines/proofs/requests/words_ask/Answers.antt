@@ -1,5 +1,4 @@
 -- `lines::requests::words_ask` meets its contract.
-use borrow.Author.Rules.{rules}
 use borrow.Author.Tests.{eq-eqb, ne_eqb}
 use Rattle.lines.specs.Requests.{request_from}
 use Rattle.lines.proofs.requests.words_ask.Goals as goal

@@ -1,5 +1,4 @@
 -- `lines::spans::passes` meets its contract.
-use borrow.Author.Rules.{rules}
 use Rattle.lines.specs.Spans.{solid}
 use Rattle.lines.proofs.spans.passes.Goals as goal
 

@@ -1,11 +1,7 @@
 -- `lines::spans::past_run` meets its contract: as long as bytes pass, the run from the next index on ends where the whole does.
-use mathlib.Core.Path.{◌≡◌, refl, sym, ◌∙◌}
-use Prim.Native.Nat.{◌-◌}
-use lib.ListN.{length}
-use borrow.Author.Rules.{rules}
-use borrow.Author.Tests.{not-true, not-false}
+use mathlib.Core.Path.{refl, sym, ◌∙◌}
 use Rattle.lines.proofs.Runs.{run_more, run_stops, run_past}
-use Rattle.lines.specs.Spans.{passing, past_run}
+use Rattle.lines.specs.Spans.{passing}
 use Rattle.lines.proofs.spans.past_run.Goals as goal
 
 pub loop-i-init : goal.loop-i-init

@@ -1,10 +1,7 @@
 -- `lines::spans::past_run` meets its contract: as long as bytes pass, the run from the next index on ends where the whole does.
-use mathlib.Core.Path.{◌≡◌, refl, sym, ◌∙◌}
+use mathlib.Core.Path.{◌≡◌}
 use Prim.Native.Nat.{◌-◌}
 use lib.ListN.{length}
-use borrow.Author.Rules.{rules}
-use borrow.Author.Tests.{not-true, not-false}
-use Rattle.lines.proofs.Runs.{run_more, run_stops, run_past}
 use Rattle.lines.specs.Spans.{passing, past_run}
 use Rattle.lines.proofs.spans.past_run.Given as goal
 

@@ -1,7 +1,6 @@
 -- `lines::spans::word_after` meets its contract.
 use Prim.Native.Nat.{◌≤◌}
 use lib.ListN.{length}
-use borrow.Author.Rules.{rules}
 use Rattle.lines.proofs.Runs.{run_ahead, run_ends}
 use Rattle.lines.specs.Spans.{blank, solid}
 use Rattle.lines.proofs.spans.word_after.Goals as goal

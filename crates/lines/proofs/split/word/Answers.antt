@@ -1,9 +1,9 @@
 -- `lines::split::word` meets its contract: word k of the line is word `left` of what stands from `at` on.
 use mathlib.Core.List.{[]}
 use mathlib.Core.Path.{◌≡◌, refl, sym, ap, ◌∙◌}
-use Prim.Native.Nat.{ℕ, suc, ◌-◌, ◌≤◌}
+use Prim.Native.Nat.{ℕ, suc, ◌-◌}
 use native.Mathlib.Omega.{arith}
-use lib.ListN.{drop, get_or, length}
+use lib.ListN.{drop, get_or}
 use borrow.Author.Rules.{rules}
 use Rattle.lines.proofs.Finding.{word_here, word_later}
 use Rattle.lines.specs.Words.{words_of}

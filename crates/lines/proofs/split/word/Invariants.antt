@@ -1,11 +1,8 @@
 -- `lines::split::word` meets its contract: word k of the line is word `left` of what stands from `at` on.
 use mathlib.Core.List.{[]}
-use mathlib.Core.Path.{◌≡◌, refl, sym, ap, ◌∙◌}
-use Prim.Native.Nat.{ℕ, suc, ◌-◌, ◌≤◌}
-use native.Mathlib.Omega.{arith}
+use mathlib.Core.Path.{◌≡◌}
+use Prim.Native.Nat.{◌≤◌}
 use lib.ListN.{drop, get_or, length}
-use borrow.Author.Rules.{rules}
-use Rattle.lines.proofs.Finding.{word_here, word_later}
 use Rattle.lines.specs.Words.{words_of}
 use Rattle.lines.proofs.split.word.Given as goal
 

@@ -1,8 +1,7 @@
 -- `lines::split::word_count` meets its contract: the words found so far, and those that stand from `at` on.
-use mathlib.Core.Path.{◌≡◌, ap}
-use Prim.Native.Nat.{◌+◌, ◌-◌, ◌≤◌}
+use mathlib.Core.Path.{ap}
 use native.Mathlib.Omega.{arith}
-use lib.ListN.{drop, drop_of_length-le, length}
+use lib.ListN.{drop_of_length-le, length}
 use borrow.Author.Rules.{rules}
 use Rattle.lines.proofs.Finding.{next_none, next_word, progress}
 use Rattle.lines.specs.Words.{words_of}

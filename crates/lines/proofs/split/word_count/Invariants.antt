@@ -1,10 +1,7 @@
 -- `lines::split::word_count` meets its contract: the words found so far, and those that stand from `at` on.
-use mathlib.Core.Path.{◌≡◌, ap}
+use mathlib.Core.Path.{◌≡◌}
 use Prim.Native.Nat.{◌+◌, ◌-◌, ◌≤◌}
-use native.Mathlib.Omega.{arith}
-use lib.ListN.{drop, drop_of_length-le, length}
-use borrow.Author.Rules.{rules}
-use Rattle.lines.proofs.Finding.{next_none, next_word, progress}
+use lib.ListN.{drop, length}
 use Rattle.lines.specs.Words.{words_of}
 use Rattle.lines.proofs.split.word_count.Given as goal
 

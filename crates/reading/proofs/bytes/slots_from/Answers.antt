@@ -1,7 +1,6 @@
 -- `reading::bytes::slots_from` meets its contract: a part that is cut off at the end of the buffer is the part.
 use Prim.Native.Nat.{◌*◌}
 use native.Mathlib.Omega.{arith}
-use borrow.Author.Rules.{rules}
 use Rattle.state.proofs.Parts.{part_whole, part_short, part_none}
 use Rattle.words.specs.Sizes.{slot_size}
 use Rattle.reading.proofs.bytes.slots_from.Goals as goal

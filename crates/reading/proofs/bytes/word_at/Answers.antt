@@ -1,5 +1,4 @@
 -- `reading::bytes::word_at` meets its contract: the four bytes that it joins are those of `word_at`.
-use borrow.Author.Rules.{rules}
 use Rattle.state.specs.Read.{word_at}
 use Rattle.reading.proofs.bytes.word_at.Goals as goal
 

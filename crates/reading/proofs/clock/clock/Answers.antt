@@ -1,5 +1,4 @@
 -- `reading::clock::clock` meets its contract: the clock is a word of the buffer.
-use borrow.Author.Rules.{rules}
 use Rattle.state.specs.Read.{read}
 use Rattle.reading.proofs.clock.clock.Goals as goal
 

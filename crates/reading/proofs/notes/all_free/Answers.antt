@@ -1,14 +1,9 @@
 -- `reading::notes::all_free` meets its contract: each turn adds one free slot, and past the last slot nothing stands.
-use mathlib.Core.Bool.{true}
-use mathlib.Core.Path.{◌≡◌, sym, ◌∙◌}
-use Prim.Native.Nat.{◌-◌}
+use mathlib.Core.Path.{sym, ◌∙◌}
 use native.Mathlib.Numerals.{add-one}
 use native.Mathlib.Omega.{arith}
-use borrow.Author.Tests.{not-true, not-false}
-use borrow.Author.Rules.{rules}
 use Rattle.reading.proofs.Free.{free_after, free_all, free_past}
 use Rattle.words.proofs.Tests.{all_zero, all_more, all_not}
-use Rattle.words.specs.Tests.{all_below}
 use Rattle.reading.proofs.notes.all_free.Goals as goal
 
 pub loop-i-init : goal.loop-i-init

@@ -1,6 +1,5 @@
 -- `reading::places::origin_from` meets its contract: each branch is an arm of `origin_from`.
 use borrow.Author.Tests.{eq-eqb, ne_eqb}
-use borrow.Author.Rules.{rules}
 use Rattle.state.specs.Read.{origin_from}
 use Rattle.reading.proofs.places.origin_from.Goals as goal
 

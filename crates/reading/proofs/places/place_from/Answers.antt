@@ -1,6 +1,5 @@
 -- `reading::places::place_from` meets its contract: each arm of the match is the choice of `place_from`.
 use borrow.Author.Tests.{ne_eqb}
-use borrow.Author.Rules.{rules}
 use Rattle.state.specs.Read.{place_from}
 use Rattle.reading.proofs.places.place_from.Goals as goal
 

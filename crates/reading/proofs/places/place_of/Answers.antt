@@ -1,5 +1,4 @@
 -- `reading::places::place_of` meets its contract: its words are those of `place_of`, and kind 0 is no right.
-use borrow.Author.Rules.{rules}
 use Rattle.state.specs.Read.{place_of, place_from}
 use Rattle.reading.proofs.places.place_of.Goals as goal
 

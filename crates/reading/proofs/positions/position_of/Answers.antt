@@ -1,6 +1,5 @@
 -- `reading::positions::position_of` meets its contract: each arm of the match is the choice of `position_from`.
 use borrow.Author.Tests.{ne_eqb}
-use borrow.Author.Rules.{rules}
 use Rattle.state.specs.Read.{position_of, position_from}
 use Rattle.reading.proofs.positions.position_of.Goals as goal
 

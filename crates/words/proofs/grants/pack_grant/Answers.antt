@@ -1,6 +1,5 @@
 -- `words::grants::pack_grant` meets its contract: each return rewrites with the tests that led there.
 use borrow.Author.Tests.{eq-eqb, ne_eqb, lt-ltb, le-ltb}
-use borrow.Author.Rules.{rules}
 use Rattle.words.specs.Grants.{pack, packable}
 use Rattle.words.specs.Try.{◌>>◌, need}
 use Rattle.words.specs.Tests.{◌&◌}

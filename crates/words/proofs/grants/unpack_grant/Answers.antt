@@ -1,6 +1,5 @@
 -- `words::grants::unpack_grant` meets its contract: its sums are those of `unpack`.
 use mathlib.Core.Path.{refl}
-use borrow.Author.Rules.{rules}
 use Rattle.words.specs.Grants.{unpack}
 use Rattle.words.proofs.grants.unpack_grant.Goals as goal
 

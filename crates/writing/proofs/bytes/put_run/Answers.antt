@@ -1,5 +1,5 @@
 -- `writing::bytes::put_run` meets its contract: the loop of `put_words` over one word n times (`put_more`, `put_done`).
-use Rattle.std.proofs.Common.{◌≡◌, ℕ, ◌-◌, ◌*◌, ◌<◌, ◌≤◌, List, ◌++◌, length, get_or, take, drop, replicate, sym, refl, ap, ◌∙◌, arith}
+use Rattle.std.proofs.Common.{◌≡◌, ℕ, ◌*◌, ◌<◌, List, ◌++◌, get_or, take, drop, replicate, sym, refl, ap, ◌∙◌, arith}
 use lib.ListN.{length-replicate, get_or-replicate}
 use Rattle.state.specs.State.{splice}
 use Rattle.state.specs.Bytes.{le32, words_bytes}

@@ -1,9 +1,6 @@
 -- `writing::bytes::put_run` meets its contract: the loop of `put_words` over one word n times (`put_more`, `put_done`).
-use Rattle.std.proofs.Common.{◌≡◌, ℕ, ◌-◌, ◌*◌, ◌<◌, ◌≤◌, List, ◌++◌, length, get_or, take, drop, replicate, sym, refl, ap, ◌∙◌, arith}
-use lib.ListN.{length-replicate, get_or-replicate}
-use Rattle.state.specs.State.{splice}
-use Rattle.state.specs.Bytes.{le32, words_bytes}
-use Rattle.writing.proofs.Stores.{put_more, put_done}
+use Rattle.std.proofs.Common.{◌≡◌, ◌-◌, ◌*◌, ◌≤◌, ◌++◌, length, take, drop, replicate}
+use Rattle.state.specs.Bytes.{words_bytes}
 use Rattle.writing.proofs.bytes.put_run.Given as goal
 
 abbrev pub invariant-loop-i : goal.invariant-loop-i

@@ -1,5 +1,5 @@
 -- `writing::bytes::put_word` meets its contract: four stores are one part replaced (`four`).
-use Rattle.std.proofs.Common.{arith, length-set, rules}
+use Rattle.std.proofs.Common.{arith, length-set}
 use Rattle.writing.proofs.Stores.{four}
 use Rattle.writing.proofs.bytes.put_word.Goals as goal
 

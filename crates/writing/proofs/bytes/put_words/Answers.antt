@@ -1,7 +1,7 @@
 -- `writing::bytes::put_words` meets its contract: the invariant is the words passed, and behind them what was there (`put_more`, `put_done`).
-use Rattle.std.proofs.Common.{◌≡◌, ℕ, ◌-◌, ◌*◌, ◌<◌, ◌≤◌, List, ◌++◌, length, get_or, take, drop, refl, ap, ◌∙◌, arith}
+use Rattle.std.proofs.Common.{ℕ, ◌*◌, ◌<◌, List, length, get_or, refl, ap, ◌∙◌, arith}
 use Rattle.state.specs.State.{splice}
-use Rattle.state.specs.Bytes.{le32, words_bytes}
+use Rattle.state.specs.Bytes.{le32}
 use Rattle.writing.proofs.Stores.{put_more, put_done}
 use Rattle.writing.proofs.bytes.put_words.Goals as goal
 

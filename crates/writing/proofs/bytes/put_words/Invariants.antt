@@ -1,8 +1,6 @@
 -- `writing::bytes::put_words` meets its contract: the invariant is the words passed, and behind them what was there (`put_more`, `put_done`).
-use Rattle.std.proofs.Common.{◌≡◌, ℕ, ◌-◌, ◌*◌, ◌<◌, ◌≤◌, List, ◌++◌, length, get_or, take, drop, refl, ap, ◌∙◌, arith}
-use Rattle.state.specs.State.{splice}
-use Rattle.state.specs.Bytes.{le32, words_bytes}
-use Rattle.writing.proofs.Stores.{put_more, put_done}
+use Rattle.std.proofs.Common.{◌≡◌, ◌-◌, ◌*◌, ◌≤◌, ◌++◌, length, take, drop}
+use Rattle.state.specs.Bytes.{words_bytes}
 use Rattle.writing.proofs.bytes.put_words.Given as goal
 
 abbrev pub invariant-loop-i : goal.invariant-loop-i

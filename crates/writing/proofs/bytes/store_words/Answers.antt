@@ -1,5 +1,5 @@
 -- `writing::bytes::store_words` meets its contract: the part that was lent comes back replaced (`lent`).
-use Rattle.std.proofs.Common.{◌*◌, length, rules}
+use Rattle.std.proofs.Common.{◌*◌, length}
 use Rattle.writing.proofs.Stores.{lent, length_words}
 use Rattle.state.specs.Bytes.{words_bytes}
 use Rattle.writing.proofs.bytes.store_words.Goals as goal

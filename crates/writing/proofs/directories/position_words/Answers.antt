@@ -1,5 +1,5 @@
 -- `writing::directories::position_words` meets its contract: by cases on the position; what and flags are the two low bytes of a word (`two_words`).
-use Rattle.std.proofs.Common.{◌<◌, arith, rules}
+use Rattle.std.proofs.Common.{◌<◌, arith}
 use Rattle.writing.specs.Flags.{position_flags}
 use Rattle.writing.proofs.Digits.{two_words}
 use Rattle.writing.proofs.directories.position_words.Goals as goal

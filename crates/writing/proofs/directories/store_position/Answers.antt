@@ -1,5 +1,4 @@
 -- `writing::directories::store_position` meets its contract: the words of the position are its bytes.
-use Rattle.std.proofs.Common.{rules}
 use Rattle.writing.proofs.directories.store_position.Goals as goal
 
 pub returns : goal.returns

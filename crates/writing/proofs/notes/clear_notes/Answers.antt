@@ -1,5 +1,5 @@
 -- `writing::notes::clear_notes` meets its contract: the notes that were lent come back as zeros (`lent`, `run_zeros`).
-use Rattle.std.proofs.Common.{◌+◌, ◌*◌, replicate, ◌∙◌, rules}
+use Rattle.std.proofs.Common.{◌+◌, ◌*◌, replicate, ◌∙◌}
 use lib.ListN.{length-replicate}
 use Rattle.words.specs.Sizes.{memory_length}
 use Rattle.writing.proofs.Stores.{lent}

@@ -1,5 +1,5 @@
 -- `writing::notes::fill_notes` meets its contract: the first note stored over the later ones (`notes_put`).
-use Rattle.std.proofs.Common.{◌+◌, ◌*◌, ap, ◌∙◌, arith, rules}
+use Rattle.std.proofs.Common.{◌+◌, ◌*◌, ap, ◌∙◌, arith}
 use Rattle.state.specs.State.{splice}
 use Rattle.state.specs.Bytes.{le32}
 use Rattle.writing.proofs.Runs.{notes_put}

@@ -1,5 +1,5 @@
 -- `writing::notes::store_notes` meets its contract: the notes that were lent come back filled (`lent`).
-use Rattle.std.proofs.Common.{◌+◌, ◌-◌, ◌*◌, ◌++◌, replicate, arith, rules}
+use Rattle.std.proofs.Common.{◌+◌, ◌-◌, ◌*◌, ◌++◌, replicate, arith}
 use lib.ListN.{length-replicate}
 use Rattle.words.specs.Sizes.{memory_length}
 use Rattle.state.specs.State.{body}

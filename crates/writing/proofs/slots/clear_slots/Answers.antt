@@ -1,5 +1,5 @@
 -- `writing::slots::clear_slots` meets its contract: the slots that were lent come back as zeros (`lent`, `run_zeros`).
-use Rattle.std.proofs.Common.{◌≡◌, ℕ, ◌*◌, replicate, ap, ◌∙◌, arith, rules}
+use Rattle.std.proofs.Common.{◌≡◌, ℕ, ◌*◌, replicate, ap, ◌∙◌, arith}
 use lib.ListN.{length-replicate}
 use Rattle.words.specs.Sizes.{slot_size}
 use Rattle.writing.proofs.Stores.{lent}

@@ -1,5 +1,5 @@
 -- `writing::slots::fill` meets its contract: three words stored over zeros (`three_put`).
-use Rattle.std.proofs.Common.{ap, ◌∙◌, rules}
+use Rattle.std.proofs.Common.{ap, ◌∙◌}
 use Rattle.state.specs.State.{splice}
 use Rattle.state.specs.Bytes.{le32}
 use Rattle.writing.proofs.Runs.{three_put}

@@ -1,5 +1,5 @@
 -- `writing::slots::fill_slots` meets its contract: the slots that were lent come back filled (`lent`).
-use Rattle.std.proofs.Common.{ℕ, ◌-◌, ◌*◌, [], ◌∷◌, ◌++◌, replicate, arith, rules}
+use Rattle.std.proofs.Common.{ℕ, ◌-◌, ◌*◌, [], ◌∷◌, ◌++◌, replicate, arith}
 use lib.ListN.{length-replicate}
 use Rattle.words.specs.Sizes.{slot_size}
 use Rattle.state.specs.Bytes.{words_bytes}

@@ -1,5 +1,4 @@
 -- `writing::tables::parent_number` meets its contract: four bytes hold a number's low 32 bits (`le32_low`).
-use Rattle.std.proofs.Common.{rules}
 use Rattle.writing.proofs.Digits.{le32_low}
 use Rattle.writing.proofs.tables.parent_number.Goals as goal
 

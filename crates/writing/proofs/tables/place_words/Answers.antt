@@ -1,5 +1,4 @@
 -- `writing::tables::place_words` meets its contract: by cases on the place.
-use Rattle.std.proofs.Common.{rules}
 use Rattle.state.specs.Bytes.{place_bytes}
 use Rattle.writing.proofs.tables.place_words.Goals as goal
 

@@ -1,5 +1,4 @@
 -- `writing::tables::right_words` meets its contract: each word is what its function promises.
-use Rattle.std.proofs.Common.{rules}
 use Rattle.writing.proofs.tables.right_words.Goals as goal
 
 pub returns : goal.returns

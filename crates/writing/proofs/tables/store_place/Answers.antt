@@ -1,5 +1,4 @@
 -- `writing::tables::store_place` meets its contract: the words of the place are its bytes.
-use Rattle.std.proofs.Common.{rules}
 use Rattle.writing.proofs.tables.store_place.Goals as goal
 
 pub returns : goal.returns
