@@ -42,7 +42,7 @@ mkdir -p "$made"
 ./cabinet --words examples/twenty-calls.txt >"$made/twenty-calls.txt"
 compare "the twenty calls" examples/twenty-calls.expected "$made/twenty-calls.txt"
 echo "examples: proving the kernel where that has not been done, and writing its archive"
-if ! rt staticlib kernel >"$made/rt.log" 2>&1; then
+if ! ./libkernel >"$made/rt.log" 2>&1; then
     tail -n 5 "$made/rt.log" >&2
     echo "examples: the archive was not written; $made/rt.log has what was said" >&2
     exit 1

@@ -1,14 +1,14 @@
 /* Thepharok: a small capability kernel whose calls are proved.
  *
- * Link with libkernel.a, which `rt staticlib kernel` writes to target/staticlib/ (x86-64 Linux; of the C library
+ * Link with libkernel.a, which ./libkernel writes to target/staticlib/ (x86-64 Linux; of the C library
  * it needs memset and nothing else). The functions keep nothing between calls, allocate nothing and never wait. All state is the buffer
  * that you lend; two buffers are two kernels. No function asks you to check anything beforehand: every buffer, caller and word is
  * judged, and a refusal changes no byte. Calls on one buffer must not overlap in time, nor the buffers of one call in memory.
  *
  * A length counts elements, not bytes: of uint8_t for a state and a text, of uint32_t for words.
  *
- * Stack, in bytes from the caller on, measured (examples/c/stack.c): kernel_read_hex 54,440, kernel_hex_lines 35,088, kernel_run 2,376,
- * kernel_call 2,304, kernel_write_hex 2,056, kernel_tick 1,992, kernel_check 1,976, kernel_boot 40; the others a few words.
+ * Stack, in bytes from the caller on, measured (examples/c/stack.c): kernel_read_hex 54,424, kernel_hex_lines 35,080,
+ * kernel_write_hex 2,728, kernel_run 2,376, kernel_call 2,304, kernel_tick 1,960, kernel_check 1,944, kernel_boot 40; the others a few words.
  */
 #ifndef THEPHAROK_H
 #define THEPHAROK_H

@@ -1,6 +1,6 @@
 #!/bin/sh
 # Builds the model and its drivers into model/target/drivers, offline.
-#   model/build.sh ARCHIVE   for x86-64, with the proved kernel: ARCHIVE is what `rt staticlib kernel` writes
+#   model/build.sh ARCHIVE   for x86-64, with the proved kernel: ARCHIVE is what ./libkernel writes
 #   model/build.sh           for this processor, with a stub that is the model itself: tests the drivers and nothing else
 # model/run.sh runs them. The first lines of model/x86-64.sh say what is needed.
 set -eu
@@ -16,7 +16,7 @@ case $# in
         need "$RUSTC" rustc
         ;;
     1)
-        [ -f "$1" ] || lacking "no file $1; rt staticlib kernel writes target/staticlib/libkernel.a"
+        [ -f "$1" ] || lacking "no file $1; ./libkernel writes target/staticlib/libkernel.a"
         archive=$(readlink -f "$1")
         machine=x86_64
         find_compilers

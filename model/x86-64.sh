@@ -4,7 +4,7 @@
 #                                       dpkg --add-architecture amd64; apt-get update; apt-get install rustc libstd-rust-dev:amd64
 #   a C compiler for x86-64             apt-get install gcc-x86-64-linux-gnu libc6-dev-amd64-cross
 #   the emulator qemu-x86_64            apt-get install qemu-user
-# RUSTC, CC and QEMU name others of each. The Rattle kit's own emulator (8.2.2) will not do: it crashes as Rust's programs start.
+# RUSTC, CC and QEMU name others of each.
 target=x86_64-unknown-linux-gnu
 
 lacking() {

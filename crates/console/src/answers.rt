@@ -1,12 +1,14 @@
 // An answer as a number and, where asked for, in words.
 use lines::counts::count_of;
 use rows::{say_form, say_row};
+use std::io::Result;
 use words::calls::{FUNCTION, RECEIVE};
 
 // Document 01's table "Refusals by number, and when": row k has −(k + 1).
-fn say_refusal(k: u32) {
+fn say_refusal(rt: &impl Print, k: u32) -> Result<()> {
     let n = k as u64 + 1;
     say_row(
+        rt,
         b"-# CAP_RANGE: a capability number or place is beyond the table, or the entries are not 1 to 64\n\
         -# CAP_FROZEN: a capability or place used is frozen, or one to delete or remove is not\n\
         -# CAP_TYPE: a right of another kind is there, or none where a kind is needed\n\
@@ -40,8 +42,9 @@ fn meaning_of(call: u32) -> u32 {
     }
 }
 
-fn say_success(n: u64, call: u32) {
+fn say_success(rt: &impl Print, n: u64, call: u32) -> Result<()> {
     say_row(
+        rt,
         b"# done\n\
         # done: the signals taken\n\
         # done: the clock mod 2^31\n",
@@ -50,21 +53,21 @@ fn say_success(n: u64, call: u32) {
     )
 }
 
-fn say_refused(k: u32, in_words: bool) {
+fn say_refused(rt: &impl Print, k: u32, in_words: bool) -> Result<()> {
     if in_words {
-        return say_refusal(k);
+        return say_refusal(rt, k);
     }
-    say_form(b"-#\n", [k as u64 + 1, 0, 0, 0])
+    say_form(rt, b"-#\n", [k as u64 + 1, 0, 0, 0])
 }
 
 // The answer n to the call of that number; a tick has none, and 0 stands for it. A refusal −(k + 1) has k for its complement.
-pub(crate) fn say_answer(n: i32, call: u32, in_words: bool) {
+pub(crate) fn say_answer(rt: &impl Print, n: i32, call: u32, in_words: bool) -> Result<()> {
     if n < 0 {
-        return say_refused(count_of(!n), in_words);
+        return say_refused(rt, count_of(!n), in_words);
     }
     let count = count_of(n) as u64;
     if in_words {
-        return say_success(count, call);
+        return say_success(rt, count, call);
     }
-    say_form(b"#\n", [count, 0, 0, 0])
+    say_form(rt, b"#\n", [count, 0, 0, 0])
 }

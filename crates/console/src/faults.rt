@@ -1,6 +1,7 @@
 // What is wrong with a line, and what a right one looks like.
 use lines::requests::Fault;
 use rows::say_row;
+use std::io::Result;
 
 // A row of the reasons, and the number that it names behind the line's.
 #[derive(Clone, Copy)]
@@ -38,8 +39,9 @@ fn reason_of(f: Fault) -> Reason {
 
 const LONG_LINE: u32 = 9;
 
-fn say_reason(number: u64, r: Reason) {
+fn say_reason(rt: &impl Print, number: u64, r: Reason) -> Result<()> {
     say_row(
+        rt,
         b"? line #: boot takes nothing after it\n\
         ? line #: show takes nothing after it\n\
         ? line #: save takes one file name without blanks, as in: save state.hex\n\
@@ -55,10 +57,10 @@ fn say_reason(number: u64, r: Reason) {
     )
 }
 
-pub(crate) fn say_fault(number: u64, f: Fault) {
-    say_reason(number, reason_of(f))
+pub(crate) fn say_fault(rt: &impl Print, number: u64, f: Fault) -> Result<()> {
+    say_reason(rt, number, reason_of(f))
 }
 
-pub(crate) fn say_long_line(number: u64) {
-    say_reason(number, plain(LONG_LINE))
+pub(crate) fn say_long_line(rt: &impl Print, number: u64) -> Result<()> {
+    say_reason(rt, number, plain(LONG_LINE))
 }

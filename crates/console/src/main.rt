@@ -11,8 +11,10 @@ mod texts;
 
 use crate::faults::say_long_line;
 use crate::steps::{boot, step};
-use libc::{STDERR_FILENO, STDIN_FILENO};
 use lines::gather::{LINE_LENGTH, first, gather};
+use std::env::FillError;
+use std::io::{Read, Result};
+use std::rt::{Env, Files};
 use words::sizes::STATE_LENGTH;
 
 // How much is read at a time.
@@ -27,47 +29,55 @@ struct Progress {
 }
 
 // The line that ends here.
-fn end_line(s: &mut [u8; STATE_LENGTH], line: &[u8], p: Progress, in_words: bool) {
+fn end_line(
+    rt: &(impl Files + Print),
+    s: &mut [u8; STATE_LENGTH],
+    line: &[u8],
+    p: Progress,
+    in_words: bool,
+) -> Result<()> {
     let number = std::num::wrapping_add_u64(p.lines, 1);
     if LINE_LENGTH < p.length {
-        return say_long_line(number);
+        return say_long_line(rt, number);
     }
-    step(s, first(line, p.length), number, in_words);
+    step(rt, s, first(line, p.length), number, in_words)
 }
 
 fn take_byte(
+    rt: &(impl Files + Print),
     s: &mut [u8; STATE_LENGTH],
     line: &mut [u8; LINE_LENGTH],
     p: Progress,
     byte: u8,
     in_words: bool,
-) -> Progress {
+) -> Result<Progress> {
     let g = gather(line, p.length, byte);
     if !g.ended {
-        return Progress {
+        return Ok(Progress {
             length: g.length,
             lines: p.lines,
-        };
+        });
     }
-    end_line(s, line, p, in_words);
-    Progress {
+    end_line(rt, s, line, p, in_words)?;
+    Ok(Progress {
         length: 0,
         lines: std::num::wrapping_add_u64(p.lines, 1),
-    }
+    })
 }
 
 fn take_bytes(
+    rt: &(impl Files + Print),
     s: &mut [u8; STATE_LENGTH],
     line: &mut [u8; LINE_LENGTH],
     p: Progress,
     bytes: &[u8],
     in_words: bool,
-) -> Progress {
+) -> Result<Progress> {
     let mut now = p;
     for i in 0..bytes.len() {
-        now = take_byte(s, line, now, bytes[i], in_words);
+        now = take_byte(rt, s, line, now, bytes[i], in_words)?;
     }
-    now
+    Ok(now)
 }
 
 // What came of one read: how far it got, and whether the input goes on.
@@ -79,46 +89,52 @@ struct Turn {
 
 // Reads what there is and does its lines before it waits again, so that a person sees each answer at once.
 fn read_once(
+    rt: &(impl Files + Print),
+    input: &mut impl Read,
     s: &mut [u8; STATE_LENGTH],
     line: &mut [u8; LINE_LENGTH],
     p: Progress,
     in_words: bool,
-) -> Turn {
+) -> Result<Turn> {
     let mut chunk = [0u8; CHUNK_LENGTH];
-    let got = libc::read(STDIN_FILENO, &mut chunk);
-    let n = io::count(got, &chunk);
+    let n = input.read(&mut chunk)?;
     if n == 0 {
-        return Turn {
+        return Ok(Turn {
             progress: p,
             goes_on: false,
-        };
+        });
     }
-    let now = take_bytes(s, line, p, &chunk[..n], in_words);
-    Turn {
+    let now = take_bytes(rt, s, line, p, &chunk[..n], in_words)?;
+    Ok(Turn {
         progress: now,
         goes_on: true,
-    }
+    })
 }
 
-// A proved loop has to end, and nothing says that the input does: the turns are counted down from a number that no run uses up.
-fn run(s: &mut [u8; STATE_LENGTH], line: &mut [u8; LINE_LENGTH], in_words: bool) {
+// A proved loop has to end, and nothing says that the input does: the turns are counted up to a number that no run reaches.
+fn run(
+    rt: &(impl Files + Print),
+    input: &mut impl Read,
+    s: &mut [u8; STATE_LENGTH],
+    line: &mut [u8; LINE_LENGTH],
+    in_words: bool,
+) -> Result<()> {
     let mut p = Progress {
         length: 0,
         lines: 0,
     };
-    let mut turns: u64 = 0xFFFFFFFFFFFFFFFF;
-    while 0 < turns {
-        let t = read_once(s, line, p, in_words);
+    for _ in 0..u64::MAX {
+        let t = read_once(rt, input, s, line, p, in_words)?;
         p = t.progress;
         if !t.goes_on {
             break;
         }
-        turns -= 1;
     }
     // A last line that nothing ends is a line too.
     if 0 < p.length {
-        end_line(s, line, p, in_words);
+        return end_line(rt, s, line, p, in_words);
     }
+    Ok(())
 }
 
 #[derive(Clone, Copy)]
@@ -128,12 +144,17 @@ enum Argument {
     Unknown,
 }
 
-fn first_argument() -> Argument {
-    if os::arg_count() < 2 {
-        return Argument::Absent;
-    }
+fn first_argument(rt: &impl Env) -> Argument {
     let mut word = [0u8; 8];
-    let n = os::arg(1, &mut word);
+    match rt.arg(1, &mut word) {
+        Err(FillError::NotPresent) => Argument::Absent,
+        Err(FillError::TooLong) => Argument::Unknown,
+        Ok(n) => argument_of(&word, n),
+    }
+}
+
+// The argument is the first n bytes.
+fn argument_of(word: &[u8; 8], n: usize) -> Argument {
     if n == 5
         && word[0] == b'w'
         && word[1] == b'o'
@@ -146,22 +167,20 @@ fn first_argument() -> Argument {
     Argument::Unknown
 }
 
-fn start(in_words: bool) {
+fn start(rt: HostRuntime, in_words: bool) -> Result<()> {
+    let mut input = rt.stdin();
     let mut s = [0u8; STATE_LENGTH];
     let mut line = [0u8; LINE_LENGTH];
     boot(&mut s);
-    run(&mut s, &mut line, in_words);
+    run(&rt, &mut input, &mut s, &mut line, in_words)
 }
 
-fn main() {
-    match first_argument() {
-        Argument::Absent => start(false),
-        Argument::Words => start(true),
-        Argument::Unknown => {
-            io::write_all(
-                STDERR_FILENO,
-                b"console: the one argument that it takes is: words\n",
-            );
-        }
+fn main(rt: HostRuntime) -> Result<()> {
+    match first_argument(&rt) {
+        Argument::Absent => start(rt, false),
+        Argument::Words => start(rt, true),
+        Argument::Unknown => rt
+            .stderr()
+            .write_all(b"console: the one argument that it takes is: words\n"),
     }
 }

@@ -6,6 +6,8 @@ use kernel::calls::kernel_call;
 use kernel::states::{kernel_boot, kernel_tick};
 use lines::requests::{Call, Request, name_in, request_in};
 use showing::show;
+use std::io::Result;
+use std::rt::Files;
 use words::fields::{CALL_NUMBERS, HALF};
 use words::sizes::STATE_LENGTH;
 
@@ -34,18 +36,25 @@ fn call_number(w0: u32) -> u32 {
 }
 
 // `number` is the line's.
-pub(crate) fn step(s: &mut [u8; STATE_LENGTH], line: &[u8], number: u64, in_words: bool) {
+pub(crate) fn step(
+    rt: &(impl Files + Print),
+    s: &mut [u8; STATE_LENGTH],
+    line: &[u8],
+    number: u64,
+    in_words: bool,
+) -> Result<()> {
     let r = request_in(line);
     match r {
-        Request::Nothing => {}
+        Request::Nothing => Ok(()),
         Request::Boot => {
             boot(s);
+            Ok(())
         }
-        Request::Show => show(s),
-        Request::Save => save(s, name_in(line), number, in_words),
-        Request::Load => load(s, name_in(line), number, in_words),
-        Request::Tick(k) => say_answer(ticks(s, k), 0, in_words),
-        Request::Call(c) => say_answer(call(s, c), call_number(c.w0), in_words),
-        Request::Unreadable(f) => say_fault(number, f),
+        Request::Show => show(rt, s),
+        Request::Save => save(rt, s, name_in(line), number, in_words),
+        Request::Load => load(rt, s, name_in(line), number, in_words),
+        Request::Tick(k) => say_answer(rt, ticks(s, k), 0, in_words),
+        Request::Call(c) => say_answer(rt, call(s, c), call_number(c.w0), in_words),
+        Request::Unreadable(f) => say_fault(rt, number, f),
     }
 }

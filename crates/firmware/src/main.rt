@@ -2,84 +2,113 @@
 // text of the state that this gives, in the one form that is written, or the refusal and the line at fault.
 #![tactic(auto)]
 
+ghost use Rattle.std.specs.Prelude.{◌≤◌, IfOk, length};
+
 use intel_hex::marks::{LONGEST_TEXT, TEXT_LENGTH};
 use kernel::firmware::{kernel_hex_lines, kernel_read_hex, kernel_write_hex};
 use kernel::states::kernel_boot;
-use libc::{STDIN_FILENO, STDOUT_FILENO};
 use lines::gather::first;
+use std::io::{Read, Result};
 use words::sizes::STATE_LENGTH;
 
-fn say(text: &[u8]) {
-    io::write_all(STDOUT_FILENO, text);
+fn say(rt: &impl Print, text: &[u8]) -> Result<()> {
+    rt.write_all(text)
 }
 
-fn say_fault(refusal: &[u8], line: u64) {
-    say(refusal);
-    say(b" line ");
-    io::print_decimal(STDOUT_FILENO, line);
-    say(b"\n");
+fn say_fault(rt: &impl Print, refusal: &[u8], line: u64) -> Result<()> {
+    say(rt, refusal)?;
+    say(rt, b" line ")?;
+    print!(rt; "{line}")?;
+    say(rt, b"\n")
 }
 
 // `line` is the one at fault; a state that is not well formed has none.
-fn say_refusal(answer: i32, line: u64) {
+fn say_refusal(rt: &impl Print, answer: i32, line: u64) -> Result<()> {
     match answer {
-        -30 => say_fault(b"-30", line),
-        -31 => say_fault(b"-31", line),
-        -32 => say_fault(b"-32", line),
-        -33 => say_fault(b"-33", line),
-        _ => say(b"-19\n"),
+        -30 => say_fault(rt, b"-30", line),
+        -31 => say_fault(rt, b"-31", line),
+        -32 => say_fault(rt, b"-32", line),
+        -33 => say_fault(rt, b"-33", line),
+        _ => say(rt, b"-19\n"),
     }
 }
 
-fn write_state(s: &[u8; STATE_LENGTH], text: &mut [u8; TEXT_LENGTH]) {
+fn write_state(
+    rt: &impl Print,
+    s: &[u8; STATE_LENGTH],
+    text: &mut [u8; TEXT_LENGTH],
+) -> Result<()> {
     let answer = kernel_write_hex(s, text);
     if answer != 0 {
-        return say_refusal(answer, 0);
+        return say_refusal(rt, answer, 0);
     }
-    say(text);
+    say(rt, text)
 }
 
-fn say_state(s: &[u8; STATE_LENGTH]) {
+fn say_state(rt: &impl Print, s: &[u8; STATE_LENGTH]) -> Result<()> {
     let mut text = [0u8; TEXT_LENGTH];
-    write_state(s, &mut text);
+    write_state(rt, s, &mut text)
 }
 
-fn say_boot() {
+fn say_boot(rt: &impl Print) -> Result<()> {
     let mut s = [0u8; STATE_LENGTH];
     kernel_boot(&mut s);
-    say_state(&s);
+    say_state(rt, &s)
 }
 
 // The line behind those that are taken is the one at fault.
-fn say_anew(text: &[u8]) {
+fn say_anew(rt: &impl Print, text: &[u8]) -> Result<()> {
     let mut s = [0u8; STATE_LENGTH];
     let answer = kernel_read_hex(text, &mut s);
     if answer != 0 {
         let line = std::num::wrapping_add_u64(kernel_hex_lines(text) as u64, 1);
-        return say_refusal(answer, line);
+        return say_refusal(rt, answer, line);
     }
-    say_state(&s);
+    say_state(rt, &s)
 }
 
-fn goes_on() -> bool {
+fn goes_on(input: &mut impl Read) -> Result<bool> {
     let mut one = [0u8; 1];
-    0 < libc::read(STDIN_FILENO, &mut one)
+    Ok(0 < input.read(&mut one)?)
+}
+
+// Reads until the text is full or the input ends, and answers how many bytes were read.
+fn read_full(input: &mut impl Read, text: &mut [u8]) -> Result<usize>
+    ensures { IfOk result (λ n. n ≤ length text.new) }
+{
+    let mut n = 0;
+    while n < text.len() {
+        let more = input.read(&mut text[n..])?;
+        if more == 0 {
+            break;
+        }
+        n += more;
+    }
+    Ok(n)
 }
 
 // The arrays are made in one function and lent whole to another: where an array is lent as a slice beside its making, its length is
 // counted out byte by byte in the proof.
-fn answer_input(text: &mut [u8; LONGEST_TEXT]) {
-    let n = io::read_full(STDIN_FILENO, text);
+fn answer_input(
+    rt: &impl Print,
+    input: &mut impl Read,
+    text: &mut [u8; LONGEST_TEXT],
+) -> Result<()> {
+    let n = read_full(input, text)?;
     if n == 0 {
-        return say_boot();
+        return say_boot(rt);
     }
-    if goes_on() {
-        return say(b"longer than 262144 bytes, more than a state's text needs\n");
+    if goes_on(input)? {
+        return say(
+            rt,
+            b"longer than 262144 bytes, more than a state's text needs\n",
+        );
     }
-    say_anew(first(text, n));
+    say_anew(rt, first(text, n))
 }
 
-fn main() {
+fn main(rt: HostRuntime) -> Result<()> {
+    let mut input = rt.stdin();
     let mut text = [0u8; LONGEST_TEXT];
-    answer_input(&mut text);
+    answer_input(&rt, &mut input, &mut text)
 }

@@ -2,7 +2,7 @@
 #![tactic(auto)]
 
 use kernel::states::{kernel_boot, kernel_check, kernel_tick};
-use libc::STDOUT_FILENO;
+use std::io::Result;
 use words::layout::{
     DIRECTORY_NAMED_AT, ENDPOINT_TAG, FLAGS_AT, HIGH_AT, NOTE_SIZE, NOTES, OBJECT_SPARE_AT,
     PARENT_AT, POSITION_VALUE_AT,
@@ -11,49 +11,51 @@ use words::sizes::{
     CLOCK_OFFSET, ENTRY_SIZE, HEADER_SIZE, POSITION_SIZE, SLOT_COUNT, SLOT_SIZE, STATE_LENGTH,
 };
 
-fn say(text: &[u8]) {
-    io::write_all(STDOUT_FILENO, text);
+fn say(rt: &impl Print, text: &[u8]) -> Result<()> {
+    rt.write_all(text)
 }
 
 // Boot and the tick answer 0 or −19.
-fn say_answer(n: i32) {
+fn say_answer(rt: &impl Print, n: i32) -> Result<()> {
     if n == 0 {
-        say(b"0\n");
+        say(rt, b"0\n")
     } else if n == -19 {
-        say(b"-19\n");
+        say(rt, b"-19\n")
     } else {
-        say(b"an answer that is not listed\n");
+        say(rt, b"an answer that is not listed\n")
     }
 }
 
-fn say_yes_or_no(yes: bool) {
+fn say_yes_or_no(rt: &impl Print, yes: bool) -> Result<()> {
     if yes {
-        say(b"yes\n");
+        say(rt, b"yes\n")
     } else {
-        say(b"no\n");
+        say(rt, b"no\n")
     }
 }
 
-fn check(s: &[u8; STATE_LENGTH]) {
-    say_yes_or_no(kernel_check(s));
+fn check(rt: &impl Print, s: &[u8; STATE_LENGTH]) -> Result<()> {
+    say_yes_or_no(rt, kernel_check(s))
 }
 
-fn boot(s: &mut [u8; STATE_LENGTH]) {
-    say_answer(kernel_boot(s));
+fn boot(rt: &impl Print, s: &mut [u8; STATE_LENGTH]) -> Result<()> {
+    say_answer(rt, kernel_boot(s))
 }
 
-fn tick(s: &mut [u8; STATE_LENGTH]) {
-    say_answer(kernel_tick(s));
+fn tick(rt: &impl Print, s: &mut [u8; STATE_LENGTH]) -> Result<()> {
+    say_answer(rt, kernel_tick(s))
 }
 
 // The check of a state in which one byte is another; the byte is put back.
-fn damaged(s: &mut [u8; STATE_LENGTH], at: usize, byte: u8) {
+fn damaged(rt: &impl Print, s: &mut [u8; STATE_LENGTH], at: usize, byte: u8) -> Result<()> {
     if at < STATE_LENGTH {
         let was = s[at];
         s[at] = byte;
-        check(s);
+        let said = check(rt, s);
         s[at] = was;
+        return said;
     }
+    Ok(())
 }
 
 // Bytes of the boot state: the last spare one; of the process at slot 18 one that is not used, and its directory's; the tag of the last
@@ -77,41 +79,41 @@ const FRAME: usize = 16 * SLOT_SIZE + HEADER_SIZE + POSITION_SIZE + POSITION_VAL
 
 const CLOCK_HIGH: usize = CLOCK_OFFSET + 3;
 
-fn main() {
+fn main(rt: HostRuntime) -> Result<()> {
     let mut s = [7u8; STATE_LENGTH];
     let mut short = [7u8; 64];
-    say(b"check of a buffer of sevens: ");
-    check(&s);
-    say(b"tick of a buffer of sevens: ");
-    tick(&mut s);
-    say(b"boot of 64 bytes: ");
-    say_answer(kernel_boot(&mut short));
-    say(b"boot: ");
-    boot(&mut s);
-    say(b"check: ");
-    check(&s);
-    say(b"tick: ");
-    tick(&mut s);
-    say(b"check: ");
-    check(&s);
-    say(b"the last spare byte set: ");
-    damaged(&mut s, LAST_SPARE, 1);
-    say(b"an unused byte of the process set: ");
-    damaged(&mut s, PROCESS_UNUSED, 1);
-    say(b"the last slot said to hold an endpoint: ");
-    damaged(&mut s, LAST_TAG, ENDPOINT_TAG);
-    say(b"the table's root with a flag fewer: ");
-    damaged(&mut s, TABLE_ROOT_FLAGS, 254);
-    say(b"the memory root's high end past the end of memory: ");
-    damaged(&mut s, MEMORY_ROOT_HIGH, 65);
-    say(b"the endpoint's root made a child of itself: ");
-    damaged(&mut s, ENDPOINT_ROOT_PARENT, 6);
-    say(b"the process's directory moved to the table: ");
-    damaged(&mut s, PROCESS_DIRECTORY, 0);
-    say(b"a frame off by one: ");
-    damaged(&mut s, FRAME, 1);
-    say(b"the clock's high byte set: ");
-    damaged(&mut s, CLOCK_HIGH, 255);
-    say(b"check: ");
-    check(&s);
+    say(&rt, b"check of a buffer of sevens: ")?;
+    check(&rt, &s)?;
+    say(&rt, b"tick of a buffer of sevens: ")?;
+    tick(&rt, &mut s)?;
+    say(&rt, b"boot of 64 bytes: ")?;
+    say_answer(&rt, kernel_boot(&mut short))?;
+    say(&rt, b"boot: ")?;
+    boot(&rt, &mut s)?;
+    say(&rt, b"check: ")?;
+    check(&rt, &s)?;
+    say(&rt, b"tick: ")?;
+    tick(&rt, &mut s)?;
+    say(&rt, b"check: ")?;
+    check(&rt, &s)?;
+    say(&rt, b"the last spare byte set: ")?;
+    damaged(&rt, &mut s, LAST_SPARE, 1)?;
+    say(&rt, b"an unused byte of the process set: ")?;
+    damaged(&rt, &mut s, PROCESS_UNUSED, 1)?;
+    say(&rt, b"the last slot said to hold an endpoint: ")?;
+    damaged(&rt, &mut s, LAST_TAG, ENDPOINT_TAG)?;
+    say(&rt, b"the table's root with a flag fewer: ")?;
+    damaged(&rt, &mut s, TABLE_ROOT_FLAGS, 254)?;
+    say(&rt, b"the memory root's high end past the end of memory: ")?;
+    damaged(&rt, &mut s, MEMORY_ROOT_HIGH, 65)?;
+    say(&rt, b"the endpoint's root made a child of itself: ")?;
+    damaged(&rt, &mut s, ENDPOINT_ROOT_PARENT, 6)?;
+    say(&rt, b"the process's directory moved to the table: ")?;
+    damaged(&rt, &mut s, PROCESS_DIRECTORY, 0)?;
+    say(&rt, b"a frame off by one: ")?;
+    damaged(&rt, &mut s, FRAME, 1)?;
+    say(&rt, b"the clock's high byte set: ")?;
+    damaged(&rt, &mut s, CLOCK_HIGH, 255)?;
+    say(&rt, b"check: ")?;
+    check(&rt, &s)
 }

@@ -1,14 +1,14 @@
 // The answers that reading a text gives, as a recorded line spells them and as they are printed, and how many texts had each.
 use crate::fields::value_of;
-use libc::STDOUT_FILENO;
+use std::io::Result;
 
 pub(crate) const ANSWERS: usize = 6;
 
 // Stands for a word that is no answer: reading never gives it.
 pub(crate) const NO_ANSWER: i32 = 1;
 
-fn say(text: &[u8]) {
-    io::write_all(STDOUT_FILENO, text);
+fn say(rt: &impl Print, text: &[u8]) -> Result<()> {
+    rt.write_all(text)
 }
 
 fn refusal_of(number: u32) -> i32 {
@@ -32,15 +32,15 @@ pub(crate) fn answer_in(word: &[u8]) -> i32 {
     if value_of(word) == 0 { 0 } else { NO_ANSWER }
 }
 
-pub(crate) fn say_answer(answer: i32) {
+pub(crate) fn say_answer(rt: &impl Print, answer: i32) -> Result<()> {
     match answer {
-        0 => say(b"0"),
-        -19 => say(b"-19"),
-        -30 => say(b"-30"),
-        -31 => say(b"-31"),
-        -32 => say(b"-32"),
-        -33 => say(b"-33"),
-        _ => say(b"another answer"),
+        0 => say(rt, b"0"),
+        -19 => say(rt, b"-19"),
+        -30 => say(rt, b"-30"),
+        -31 => say(rt, b"-31"),
+        -32 => say(rt, b"-32"),
+        -33 => say(rt, b"-33"),
+        _ => say(rt, b"another answer"),
     }
 }
 
@@ -64,18 +64,18 @@ pub(crate) fn count(counts: &mut [u64; ANSWERS], answer: i32) {
     }
 }
 
-fn say_count(answer: i32, n: u64) {
-    say_answer(answer);
-    say(b": ");
-    io::print_decimal(STDOUT_FILENO, n);
-    say(b" texts\n");
+fn say_count(rt: &impl Print, answer: i32, n: u64) -> Result<()> {
+    say_answer(rt, answer)?;
+    say(rt, b": ")?;
+    print!(rt; "{n}")?;
+    say(rt, b" texts\n")
 }
 
-pub(crate) fn say_counts(counts: &[u64; ANSWERS]) {
-    say_count(0, counts[0]);
-    say_count(-19, counts[1]);
-    say_count(-30, counts[2]);
-    say_count(-31, counts[3]);
-    say_count(-32, counts[4]);
-    say_count(-33, counts[5]);
+pub(crate) fn say_counts(rt: &impl Print, counts: &[u64; ANSWERS]) -> Result<()> {
+    say_count(rt, 0, counts[0])?;
+    say_count(rt, -19, counts[1])?;
+    say_count(rt, -30, counts[2])?;
+    say_count(rt, -31, counts[3])?;
+    say_count(rt, -32, counts[4])?;
+    say_count(rt, -33, counts[5])
 }

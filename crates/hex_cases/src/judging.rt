@@ -5,12 +5,12 @@ use crate::texts::{CASE_LENGTH, make};
 use intel_hex::marks::TEXT_LENGTH;
 use kernel::firmware::{kernel_hex_lines, kernel_read_hex};
 use kernel::states::kernel_boot;
-use libc::STDOUT_FILENO;
 use lines::gather::first;
+use std::io::Result;
 use words::sizes::STATE_LENGTH;
 
-fn say(text: &[u8]) {
-    io::write_all(STDOUT_FILENO, text);
+fn say(rt: &impl Print, text: &[u8]) -> Result<()> {
+    rt.write_all(text)
 }
 
 // What a destination holds before a text is read into it: no state, so it cannot be taken for one that was read.
@@ -24,10 +24,11 @@ pub struct Outcome {
     pub right: bool,
 }
 
-pub(crate) fn boot(s: &mut [u8; STATE_LENGTH]) {
+pub(crate) fn boot(rt: &impl Print, s: &mut [u8; STATE_LENGTH]) -> Result<()> {
     if kernel_boot(s) != 0 {
-        say(b"boot refused\n");
+        say(rt, b"boot refused\n")?;
     }
+    Ok(())
 }
 
 fn same(a: &[u8; STATE_LENGTH], b: &[u8; STATE_LENGTH]) -> bool {
@@ -39,32 +40,37 @@ fn read(text: &[u8], s: &mut [u8; STATE_LENGTH]) -> i32 {
 }
 
 // A text that is taken gives the boot state; "Lent buffers are written only on success."
-fn is_right(s: &[u8; STATE_LENGTH], answer: i32) -> bool {
+fn is_right(rt: &impl Print, s: &[u8; STATE_LENGTH], answer: i32) -> Result<bool> {
     let mut wanted = [HELD; STATE_LENGTH];
     if answer == 0 {
-        boot(&mut wanted);
+        boot(rt, &mut wanted)?;
     }
-    same(s, &wanted)
+    Ok(same(s, &wanted))
 }
 
 // What the first `length` bytes of the text give.
-fn outcome_of(text: &[u8; CASE_LENGTH], length: usize) -> Outcome {
+fn outcome_of(rt: &impl Print, text: &[u8; CASE_LENGTH], length: usize) -> Result<Outcome> {
     let lent = first(text, length);
     let mut s = [HELD; STATE_LENGTH];
     let answer = read(lent, &mut s);
-    let right = is_right(&s, answer);
-    Outcome {
+    let right = is_right(rt, &s, answer)?;
+    Ok(Outcome {
         answer,
         taken: kernel_hex_lines(lent),
         right,
-    }
+    })
 }
 
 // The case of a line, read.
-pub(crate) fn judged(written: &[u8; TEXT_LENGTH], line: &[u8], c: Case) -> Outcome {
+pub(crate) fn judged(
+    rt: &impl Print,
+    written: &[u8; TEXT_LENGTH],
+    line: &[u8],
+    c: Case,
+) -> Result<Outcome> {
     let mut text = [0u8; CASE_LENGTH];
     let length = make(&mut text, written, c.from, c.to, pairs_in(line, c));
-    outcome_of(&text, length)
+    outcome_of(rt, &text, length)
 }
 
 pub(crate) fn is_as_recorded(c: Case, o: Outcome) -> bool {
@@ -77,22 +83,22 @@ pub(crate) fn is_as_recorded(c: Case, o: Outcome) -> bool {
     o.right
 }
 
-fn say_taken(answer: i32, taken: usize) {
-    say_answer(answer);
-    say(b" after ");
-    io::print_decimal(STDOUT_FILENO, taken as u64);
-    say(b" lines");
+fn say_taken(rt: &impl Print, answer: i32, taken: usize) -> Result<()> {
+    say_answer(rt, answer)?;
+    say(rt, b" after ")?;
+    print!(rt; "{taken}")?;
+    say(rt, b" lines")
 }
 
-pub(crate) fn say_difference(number: u64, c: Case, o: Outcome) {
-    say(b"line ");
-    io::print_decimal(STDOUT_FILENO, number);
-    say(b": expected ");
-    say_taken(c.answer, c.taken);
-    say(b", came ");
-    say_taken(o.answer, o.taken);
+pub(crate) fn say_difference(rt: &impl Print, number: u64, c: Case, o: Outcome) -> Result<()> {
+    say(rt, b"line ")?;
+    print!(rt; "{number}")?;
+    say(rt, b": expected ")?;
+    say_taken(rt, c.answer, c.taken)?;
+    say(rt, b", came ")?;
+    say_taken(rt, o.answer, o.taken)?;
     if !o.right {
-        say(b" with other bytes in the destination");
+        say(rt, b" with other bytes in the destination")?;
     }
-    say(b"\n");
+    say(rt, b"\n")
 }

@@ -14,12 +14,12 @@ use crate::judging::{boot, is_as_recorded, judged, say_difference};
 use crate::records::{Case, Record, record_in};
 use intel_hex::marks::TEXT_LENGTH;
 use kernel::firmware::kernel_write_hex;
-use libc::{STDIN_FILENO, STDOUT_FILENO};
 use lines::gather::{LINE_LENGTH, first, gather};
+use std::io::{Read, Result};
 use words::sizes::STATE_LENGTH;
 
-fn say(text: &[u8]) {
-    io::write_all(STDOUT_FILENO, text);
+fn say(rt: &impl Print, text: &[u8]) -> Result<()> {
+    rt.write_all(text)
 }
 
 // How much is read at a time.
@@ -36,84 +36,88 @@ struct Progress {
 
 // Whether the case of a line comes out otherwise.
 fn differs(
+    rt: &impl Print,
     written: &[u8; TEXT_LENGTH],
     counts: &mut [u64; ANSWERS],
     line: &[u8],
     number: u64,
     c: Case,
-) -> bool {
-    let o = judged(written, line, c);
+) -> Result<bool> {
+    let o = judged(rt, written, line, c)?;
     if is_as_recorded(c, o) {
         count(counts, o.answer);
-        return false;
+        return Ok(false);
     }
-    say_difference(number, c, o);
-    true
+    say_difference(rt, number, c, o)?;
+    Ok(true)
 }
 
-fn say_unreadable(number: u64) {
-    say(b"line ");
-    io::print_decimal(STDOUT_FILENO, number);
-    say(b" is no case\n");
+fn say_unreadable(rt: &impl Print, number: u64) -> Result<()> {
+    say(rt, b"line ")?;
+    print!(rt; "{number}")?;
+    say(rt, b" is no case\n")
 }
 
 // The line that ends here; answers whether it comes out otherwise.
 fn end_line(
+    rt: &impl Print,
     written: &[u8; TEXT_LENGTH],
     counts: &mut [u64; ANSWERS],
     line: &[u8],
     length: usize,
     number: u64,
-) -> bool {
+) -> Result<bool> {
     match record_in(line, length) {
-        Record::Nothing => false,
-        Record::Judged(c) => differs(written, counts, line, number, c),
+        Record::Nothing => Ok(false),
+        Record::Judged(c) => differs(rt, written, counts, line, number, c),
         Record::Unreadable => {
-            say_unreadable(number);
-            true
+            say_unreadable(rt, number)?;
+            Ok(true)
         }
     }
 }
 
 fn take_byte(
+    rt: &impl Print,
     written: &[u8; TEXT_LENGTH],
     counts: &mut [u64; ANSWERS],
     line: &mut [u8; LINE_LENGTH],
     p: Progress,
     byte: u8,
-) -> Progress {
+) -> Result<Progress> {
     let g = gather(line, p.length, byte);
     if !g.ended {
-        return Progress {
+        return Ok(Progress {
             length: g.length,
             lines: p.lines,
             differs: p.differs,
-        };
+        });
     }
     let number = std::num::wrapping_add_u64(p.lines, 1);
     let kept = first(line, g.length);
-    Progress {
+    Ok(Progress {
         length: 0,
         lines: number,
-        differs: end_line(written, counts, kept, g.length, number),
-    }
+        differs: end_line(rt, written, counts, kept, g.length, number)?,
+    })
 }
 
 fn take_bytes(
+    rt: &impl Print,
     written: &[u8; TEXT_LENGTH],
     counts: &mut [u64; ANSWERS],
     line: &mut [u8; LINE_LENGTH],
     p: Progress,
     bytes: &[u8],
-) -> Progress {
+) -> Result<Progress> {
     let mut now = p;
     for i in 0..bytes.len() {
-        now = take_byte(written, counts, line, now, bytes[i]);
+        now = take_byte(rt, written, counts, line, now, bytes[i])?;
         if now.differs {
-            return now;
+            return Ok(now);
         }
     }
-    now
+    Ok(now)
 }
 
 // What came of one read: how far it got, and whether the record goes on.
@@ -124,49 +128,49 @@ struct Turn {
 }
 
 fn read_once(
+    rt: &impl Print,
+    input: &mut impl Read,
     written: &[u8; TEXT_LENGTH],
     counts: &mut [u64; ANSWERS],
     line: &mut [u8; LINE_LENGTH],
     p: Progress,
-) -> Turn {
+) -> Result<Turn> {
     let mut chunk = [0u8; CHUNK_LENGTH];
-    let got = libc::read(STDIN_FILENO, &mut chunk);
-    let n = io::count(got, &chunk);
+    let n = input.read(&mut chunk)?;
     if n == 0 {
-        return Turn {
+        return Ok(Turn {
             progress: p,
             goes_on: false,
-        };
+        });
     }
-    let now = take_bytes(written, counts, line, p, &chunk[..n]);
-    Turn {
+    let now = take_bytes(rt, written, counts, line, p, &chunk[..n])?;
+    Ok(Turn {
         progress: now,
         goes_on: !now.differs,
-    }
+    })
 }
 
-// Whether every case comes out as recorded. The reads are counted down from a number that no run uses up, since a proved loop has to
-// end.
+// Whether every case comes out as recorded. The reads are counted up to a number that no run reaches, since a proved loop has to end.
 fn judge_all(
+    rt: &impl Print,
+    input: &mut impl Read,
     written: &[u8; TEXT_LENGTH],
     counts: &mut [u64; ANSWERS],
     line: &mut [u8; LINE_LENGTH],
-) -> bool {
+) -> Result<bool> {
     let mut p = Progress {
         length: 0,
         lines: 0,
         differs: false,
     };
-    let mut reads: u64 = 0xFFFFFFFFFFFFFFFF;
-    while 0 < reads {
-        let t = read_once(written, counts, line, p);
+    for _ in 0..u64::MAX {
+        let t = read_once(rt, input, written, counts, line, p)?;
         p = t.progress;
         if !t.goes_on {
             break;
         }
-        reads -= 1;
     }
-    !p.differs
+    Ok(!p.differs)
 }
 
 fn write(s: &[u8; STATE_LENGTH], written: &mut [u8; TEXT_LENGTH]) -> bool {
@@ -174,21 +178,22 @@ fn write(s: &[u8; STATE_LENGTH], written: &mut [u8; TEXT_LENGTH]) -> bool {
 }
 
 // Whether the boot state's text was written.
-fn write_boot(written: &mut [u8; TEXT_LENGTH]) -> bool {
+fn write_boot(rt: &impl Print, written: &mut [u8; TEXT_LENGTH]) -> Result<bool> {
     let mut s = [0u8; STATE_LENGTH];
-    boot(&mut s);
-    write(&s, written)
+    boot(rt, &mut s)?;
+    Ok(write(&s, written))
 }
 
-fn main() {
+fn main(rt: HostRuntime) -> Result<()> {
+    let mut input = rt.stdin();
     let mut written = [0u8; TEXT_LENGTH];
     let mut counts = [0u64; ANSWERS];
     let mut line = [0u8; LINE_LENGTH];
-    if !write_boot(&mut written) {
-        say(b"the boot state was not written\n");
-        return;
+    if !write_boot(&rt, &mut written)? {
+        return say(&rt, b"the boot state was not written\n");
     }
-    if judge_all(&written, &mut counts, &mut line) {
-        say_counts(&counts);
+    if judge_all(&rt, &mut input, &written, &mut counts, &mut line)? {
+        say_counts(&rt, &counts)?;
     }
+    Ok(())
 }

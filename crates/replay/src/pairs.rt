@@ -1,6 +1,6 @@
 // Which answers each call gave: a row for each of the twenty numbers and one, 0, for all others; a column for 0, one for a positive
 // count, and one for each refusal.
-use libc::STDOUT_FILENO;
+use std::io::Result;
 use words::calls::FUNCTION;
 use words::fields::{CALL_NUMBERS, HALF};
 
@@ -17,12 +17,12 @@ const COLUMNS: usize = COLUMNS_U32 as usize;
 
 pub(crate) const PAIRS: usize = COLUMNS * (ROWS as usize);
 
-fn say(text: &[u8]) {
-    io::write_all(STDOUT_FILENO, text);
+fn say(rt: &impl Print, text: &[u8]) -> Result<()> {
+    rt.write_all(text)
 }
 
-fn say_number(n: u32) {
-    io::print_decimal(STDOUT_FILENO, n as u64);
+fn say_number(rt: &impl Print, n: u32) -> Result<()> {
+    print!(rt; "{n}")
 }
 
 // The row of the call whose first word is w0, by N[5:0].
@@ -81,40 +81,41 @@ fn is_met(met: &[u8; PAIRS], row: u32, column: u32) -> bool {
     if at < PAIRS { met[at] != 0 } else { false }
 }
 
-fn say_column(column: u32) {
+fn say_column(rt: &impl Print, column: u32) -> Result<()> {
     match column {
-        0 => say(b" 0"),
-        1 => say(b" +"),
+        0 => say(rt, b" 0"),
+        1 => say(rt, b" +"),
         _ => {
-            say(b" -");
-            say_number(column - 1);
+            say(rt, b" -")?;
+            say_number(rt, column - 1)
         }
     }
 }
 
-fn say_row(met: &[u8; PAIRS], row: u32) {
+fn say_row(rt: &impl Print, met: &[u8; PAIRS], row: u32) -> Result<()> {
     for column in 0..COLUMNS_U32 {
         if is_met(met, row, column) {
-            say_column(column);
+            say_column(rt, column)?;
         }
     }
-    say(b"\n");
+    say(rt, b"\n")
 }
 
-fn say_name(row: u32) {
+fn say_name(rt: &impl Print, row: u32) -> Result<()> {
     if row == 0 {
-        say(b"other numbers:");
+        say(rt, b"other numbers:")
     } else {
-        say(b"call ");
-        say_number(row);
-        say(b":");
+        say(rt, b"call ")?;
+        say_number(rt, row)?;
+        say(rt, b":")
     }
 }
 
 // The answers that each call gave, a call a line.
-pub(crate) fn say_pairs(met: &[u8; PAIRS]) {
+pub(crate) fn say_pairs(rt: &impl Print, met: &[u8; PAIRS]) -> Result<()> {
     for row in 0..ROWS {
-        say_name(row);
-        say_row(met, row);
+        say_name(rt, row)?;
+        say_row(rt, met, row)?;
     }
+    Ok(())
 }

@@ -1,6 +1,6 @@
 // How many steps of each sort the record has.
 use crate::records::Record;
-use libc::STDOUT_FILENO;
+use std::io::Result;
 
 fn sort(r: Record) -> usize {
     match r {
@@ -21,15 +21,15 @@ pub(crate) fn count(counts: &mut [u64; 8], r: Record) {
     }
 }
 
-fn say_count(n: u64, name: &[u8]) {
-    io::print_decimal(STDOUT_FILENO, n);
-    io::write_all(STDOUT_FILENO, name);
+fn say_count(rt: &impl Print, n: u64, name: &[u8]) -> Result<()> {
+    print!(rt; "{n}")?;
+    rt.write_all(name)
 }
 
-pub(crate) fn say_counts(counts: &[u64; 8]) {
-    say_count(counts[4], b" calls, ");
-    say_count(counts[2], b" ticks and ");
-    say_count(counts[1], b" boots answered as recorded; ");
-    say_count(counts[5], b" states as recorded; ");
-    say_count(counts[3], b" words set directly\n");
+pub(crate) fn say_counts(rt: &impl Print, counts: &[u64; 8]) -> Result<()> {
+    say_count(rt, counts[4], b" calls, ")?;
+    say_count(rt, counts[2], b" ticks and ")?;
+    say_count(rt, counts[1], b" boots answered as recorded; ")?;
+    say_count(rt, counts[5], b" states as recorded; ")?;
+    say_count(rt, counts[3], b" words set directly\n")
 }

@@ -1,12 +1,22 @@
--- "prove that two results satisfying it are equal": these functions answer nothing and nothing is lent to them to be written. What they
--- print no contract can say.
-use Rattle.std.proofs.Common.{refl}
-use Rattle.words.specs.Determined.{Determined}
+-- "prove that two results satisfying it are equal": these functions answer nothing but that a write failed, and nothing is lent to them to
+-- be written. What they print no contract can say.
+use Rattle.std.proofs.Common.{refl, IsOk, Ok, Err}
+use Rattle.std.specs.declared.io.Print.{Ghosts}
+use Rattle.rows.specs.Settled.{Settled}
 use Rattle.rows.proofs as rows
 use Rattle.rows.specs.contracts as contracts
+use denote.Param.Laws.{Laws}
+use denote.RattleType.{RattleType}
+use mir.Syntax.{Dict}
 
-pub say_row : Determined contracts.say_row.ended rows.say_row.Reads.Learnt
-say_row κs a x y v w p q = (refl, refl)
+pub say_row : (T : RattleType) (L : Laws T) (G : Ghosts T.Denot) (d : Dict)
+    → Settled (contracts.say_row.ended T G d) (λ κs x. IsOk x) (rows.say_row.Reads.Learnt T L G d)
+say_row T L G d κs a (Ok x) (Ok y) v w p q = ((λ _ _. refl), refl)
+say_row T L G d κs a (Ok x) (Err e) v w p q = ((λ i j. cc), refl)
+say_row T L G d κs a (Err e) y v w p q = ((λ i j. cc), refl)
 
-pub say_form : Determined contracts.say_form.ended rows.say_form.Reads.Learnt
-say_form κs a x y v w p q = (refl, refl)
+pub say_form : (T : RattleType) (L : Laws T) (G : Ghosts T.Denot) (d : Dict)
+    → Settled (contracts.say_form.ended T G d) (λ κs x. IsOk x) (rows.say_form.Reads.Learnt T L G d)
+say_form T L G d κs a (Ok x) (Ok y) v w p q = ((λ _ _. refl), refl)
+say_form T L G d κs a (Ok x) (Err e) v w p q = ((λ i j. cc), refl)
+say_form T L G d κs a (Err e) y v w p q = ((λ i j. cc), refl)

@@ -5,6 +5,7 @@
 mod row_bytes;
 
 use crate::row_bytes::{ROW_LENGTH, flush, put_byte, put_decimal, put_hex};
+use std::io::Result;
 
 // The places: a number in decimal, an address in eight hexadecimal digits, flags in two.
 const DECIMAL: u8 = b'#';
@@ -52,53 +53,72 @@ fn rows_after(byte: u8, rows: u32) -> u32 {
 }
 
 // The number where the byte is a place for one, nothing for a bar, else the byte.
-fn put_filled(row: &mut [u8; ROW_LENGTH], used: usize, byte: u8, n: u64) -> usize {
+fn put_filled(
+    rt: &impl Print,
+    row: &mut [u8; ROW_LENGTH],
+    used: usize,
+    byte: u8,
+    n: u64,
+) -> Result<usize> {
     match byte {
-        DECIMAL => put_decimal(row, used, n),
-        ADDRESS => put_hex(row, used, n, 8),
-        FLAGS => put_hex(row, used, n, 2),
-        BAR => used,
-        _ => put_byte(row, used, byte),
+        DECIMAL => put_decimal(rt, row, used, n),
+        ADDRESS => put_hex(rt, row, used, n, 8),
+        FLAGS => put_hex(rt, row, used, n, 2),
+        BAR => Ok(used),
+        _ => put_byte(rt, row, used, byte),
     }
 }
 
 // A byte of the rows: row k is put, the others are gone past.
-fn put_next(row: &mut [u8; ROW_LENGTH], c: Course, byte: u8, k: u32, numbers: [u64; 4]) -> Course {
+fn put_next(
+    rt: &impl Print,
+    row: &mut [u8; ROW_LENGTH],
+    c: Course,
+    byte: u8,
+    k: u32,
+    numbers: [u64; 4],
+) -> Result<Course> {
     let rows = rows_after(byte, c.rows);
     if c.rows != k {
-        return Course {
+        return Ok(Course {
             rows,
             numbers: 0,
             used: c.used,
-        };
+        });
     }
-    let used = put_filled(row, c.used, byte, number_at(numbers, c.numbers));
-    Course {
+    let used = put_filled(rt, row, c.used, byte, number_at(numbers, c.numbers))?;
+    Ok(Course {
         rows,
         numbers: numbers_after(byte, c.numbers),
         used,
-    }
+    })
 }
 
-fn put_row(row: &mut [u8; ROW_LENGTH], rows: &[u8], k: u32, numbers: [u64; 4]) {
+fn put_row(
+    rt: &impl Print,
+    row: &mut [u8; ROW_LENGTH],
+    rows: &[u8],
+    k: u32,
+    numbers: [u64; 4],
+) -> Result<()> {
     let mut c = Course {
         rows: 0,
         numbers: 0,
         used: 0,
     };
     for i in 0..rows.len() {
-        c = put_next(row, c, rows[i], k, numbers);
+        c = put_next(rt, row, c, rows[i], k, numbers)?;
     }
-    flush(row, c.used);
+    flush(rt, row, c.used)
 }
 
-// Prints row k, counted from 0.
-pub fn say_row(rows: &[u8], k: u32, numbers: [u64; 4]) {
+// Prints row k, counted from 0, on `out`.
+pub fn say_row(rt: &impl Print, rows: &[u8], k: u32, numbers: [u64; 4]) -> Result<()> {
     let mut row = [0u8; ROW_LENGTH];
-    put_row(&mut row, rows, k, numbers);
+    put_row(rt, &mut row, rows, k, numbers)
 }
 
-// Prints one row, or a part of one.
-pub fn say_form(form: &[u8], numbers: [u64; 4]) {
-    say_row(form, 0, numbers);
+// Prints one row, or a part of one, on `out`.
+pub fn say_form(rt: &impl Print, form: &[u8], numbers: [u64; 4]) -> Result<()> {
+    say_row(rt, form, 0, numbers)
 }

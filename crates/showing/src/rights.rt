@@ -1,6 +1,7 @@
 // A right as `show` prints it: kind and object or range, flags, the frozen mark, and where it comes from.
 use reading::notes::first_at;
 use rows::{NO_NUMBERS, say_form, say_row};
+use std::io::Result;
 use words::capabilities::{Capability, Frost, Kind, Origin};
 use words::numbers::Slot;
 use words::sizes::{PLACE_COUNT_U32, STATE_LENGTH};
@@ -40,10 +41,11 @@ fn naming_of(kind: Kind, flags: u64) -> Naming {
 }
 
 // A function has a range and no flags; a directory's positions stand behind its flags.
-fn say_kind(kind: Kind, flags: u32) {
+fn say_kind(rt: &impl Print, kind: Kind, flags: u32) -> Result<()> {
     let n = naming_of(kind, flags as u64);
     let numbers = n.numbers;
     say_row(
+        rt,
         b"table #, flags &|\
         process #, flags &|\
         endpoint #, flags &|\
@@ -55,36 +57,36 @@ fn say_kind(kind: Kind, flags: u32) {
     )
 }
 
-fn say_frost(frost: Frost) {
+fn say_frost(rt: &impl Print, frost: Frost) -> Result<()> {
     match frost {
-        Frost::Thawed => {}
-        Frost::Frozen(stamp) => say_form(b", frozen at #", [stamp as u64, 0, 0, 0]),
+        Frost::Thawed => Ok(()),
+        Frost::Frozen(stamp) => say_form(rt, b", frozen at #", [stamp as u64, 0, 0, 0]),
     }
 }
 
 // The parent's place number is twice its table's first slot and the entry; the slot that it falls into tells the table.
-fn say_parent(s: &[u8; STATE_LENGTH], p: u32) {
+fn say_parent(rt: &impl Print, s: &[u8; STATE_LENGTH], p: u32) -> Result<()> {
     if PLACE_COUNT_U32 <= p {
-        return;
+        return Ok(());
     }
     let t = first_at(s, Slot((p / 2) as u8));
     let first = 2 * (t.0 as u32);
     let entry = std::num::wrapping_sub_u32(p, first);
-    say_form(b", from #:#", [t.0 as u64, entry as u64, 0, 0])
+    say_form(rt, b", from #:#", [t.0 as u64, entry as u64, 0, 0])
 }
 
-fn say_origin(s: &[u8; STATE_LENGTH], origin: Origin) {
+fn say_origin(rt: &impl Print, s: &[u8; STATE_LENGTH], origin: Origin) -> Result<()> {
     match origin {
-        Origin::Root => say_form(b", root", NO_NUMBERS),
-        Origin::Under(p) => say_parent(s, p),
+        Origin::Root => say_form(rt, b", root", NO_NUMBERS),
+        Origin::Under(p) => say_parent(rt, s, p),
     }
 }
 
-pub(crate) fn say_right(s: &[u8; STATE_LENGTH], c: Capability) {
+pub(crate) fn say_right(rt: &impl Print, s: &[u8; STATE_LENGTH], c: Capability) -> Result<()> {
     let kind = c.kind;
     let frost = c.frost;
     let origin = c.origin;
-    say_kind(kind, c.flags);
-    say_frost(frost);
-    say_origin(s, origin)
+    say_kind(rt, kind, c.flags)?;
+    say_frost(rt, frost)?;
+    say_origin(rt, s, origin)
 }
