@@ -5,12 +5,12 @@
 
 mod answers;
 mod fields;
-mod judging;
+mod outcomes;
 mod records;
 mod texts;
 
 use crate::answers::{ANSWERS, count, say_counts};
-use crate::judging::{boot, is_as_recorded, judged, say_difference};
+use crate::outcomes::{boot, is_as_recorded, judged, say_difference};
 use crate::records::{Case, Record, record_in};
 use intel_hex::marks::TEXT_LENGTH;
 use kernel::firmware::kernel_write_hex;

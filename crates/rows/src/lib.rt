@@ -112,13 +112,13 @@ fn put_row(
     flush(rt, row, c.used)
 }
 
-// Prints row k, counted from 0, on `out`.
+// Prints row k, counted from 0.
 pub fn say_row(rt: &impl Print, rows: &[u8], k: u32, numbers: [u64; 4]) -> Result<()> {
     let mut row = [0u8; ROW_LENGTH];
     put_row(rt, &mut row, rows, k, numbers)
 }
 
-// Prints one row, or a part of one, on `out`.
+// Prints one row, or a part of one.
 pub fn say_form(rt: &impl Print, form: &[u8], numbers: [u64; 4]) -> Result<()> {
     say_row(rt, form, 0, numbers)
 }

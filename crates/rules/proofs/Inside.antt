@@ -1,4 +1,4 @@
--- What stands lies within the 256 slots, and holds places within the 512: past them a laid_out state has nothing.
+-- What stands lies within the 256 slots, and holds places within the 512: past them a laid-out state has nothing.
 use mathlib.Core.Path.{ap, refl, ◌≡◌}
 use Prim.Native.Nat.{◌/◌, ◌<◌, suc, ℕ, ◌≤◌}
 use native.Mathlib.Omega.{arith}
