@@ -17,7 +17,7 @@ use Rattle.state.specs.State.{Object, directory, endpoint, free, obj_at, place_a
 use Rattle.words.proofs.Flags.{inside_facts}
 use Rattle.words.specs.Fields.{count}
 use Rattle.words.specs.Rights.{inside, object_of}
-use Rattle.apart.specs.Names.{Action, Answer, Blank, ChangeDirectory, ChangeTable, CreateDirectory, CreateEndpoint, CreateProcess, CreateTable, Delete, Directory, Empty, Endpoint, Fill, Freeze, Function, Holds, Kind, Memory, Place, Process, Remove, SetCount, SetPosition, Slot, Spot, Table, Words}
+use Rattle.apart.specs.Names.{Action, Answer, None, ChangeDirectory, ChangeTable, CreateDirectory, CreateEndpoint, CreateProcess, CreateTable, Delete, Directory, Empty, Endpoint, Fill, Freeze, Function, Some, Kind, Memory, Place, Process, Remove, SetCount, SetPosition, Slot, Spot, Table, Words}
 use Rattle.apart.specs.Reach.{NamesObject}
 use Rattle.apart.proofs.Extents.{lies_inside, none_behind}
 use Rattle.apart.proofs.Good.{GoodCreate, GoodDelete}
@@ -29,7 +29,7 @@ use Rattle.apart.proofs.View.{in_slot}
 module _ {M : ℕ → ℕ → Type 0} {a b : ℕ} (S : Scene M a b) where
   -- ---- creations: an object o with no right in it, in n free slots from s on that lie in a memory right, which is of M; k: the kind of its root
   create_good : (p : Spot) (s : Slot) (n : ℕ) (o : Object) (k : Kind) → Creation S.st S.t p s n
-      → 0 < n → size_of o ≡ n → 0 < object_no o → ((j : ℕ) → get_or (places_of o) j Blank ≡ Blank) → Own S.R o
+      → 0 < n → size_of o ≡ n → 0 < object_no o → ((j : ℕ) → get_or (places_of o) j None ≡ None) → Own S.R o
       → SafeKind M a b (λ u. S.R u ⊎ (u ≡ s.0)) k → (object_of k).0 ≡ s.0 → GoodCreate M a b S.st S.R p s o k
   create_good p s n o k h some size real empty names kind object =
       let q = h.plot in
@@ -89,13 +89,13 @@ module _ {M : ℕ → ℕ → Type 0} {a b : ℕ} (S : Scene M a b) where
   asked_safe (Function l u) w h s = tt
 
   froze_safe : (clock : ℕ) (p : Place) → SafeAt M a b S.st S.R p → SafeAt M a b S.st S.R (froze clock p)
-  froze_safe clock Blank h = tt
-  froze_safe clock (Holds c) h = record { kind = h.kind; orig = h.orig }
+  froze_safe clock None h = tt
+  froze_safe clock (Some c) h = record { kind = h.kind; orig = h.orig }
 
   -- ---- each action
   pub action_good : (w : Words) (x : Action) → Passed S.st S.t w x → GoodIn S x
   action_good w (CreateTable p s n) h =
-      create_good p s _ (table (replicate n Blank)) (Table s) h.creation (let z = h.some in omega arith) (table_slots n) (omega arith) (λ j. copies n j Blank) tt (inr refl) refl
+      create_good p s _ (table (replicate n None)) (Table s) h.creation (let z = h.some in omega arith) (table_slots n) (omega arith) (λ j. copies n j None) tt (inr refl) refl
   action_good w (CreateDirectory p s g) h =
       create_good p s _ (directory g (replicate (2 ^ g.number) Empty)) (Directory s 0 (2 ^ g.number - 1)) h.creation
       (omega arith) (directory_slots g (2 ^ g.number)) (omega arith) (λ j. refl) tt tt refl

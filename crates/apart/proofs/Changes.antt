@@ -7,7 +7,7 @@ use native.Mathlib.Omega.{arith}
 use lib.ListN.{get_or}
 use Rattle.state.specs.State.{Object, State, free, places_of}
 use Rattle.apart.specs.Demand3.{Joined, Same}
-use Rattle.apart.specs.Names.{Blank}
+use Rattle.apart.specs.Names.{None}
 use Rattle.apart.specs.Reach.{Covers, In, extent, extent_at, form_at, form_of}
 use Rattle.apart.proofs.Invariant.{Far, Inv, Own, SafeAt, far_forms, own_on, safe_on}
 use Rattle.apart.proofs.View.{Out, Put, Raised, Razed, Side, first, in_slot, later, outside, side}
@@ -24,16 +24,16 @@ put_forms st r x o w form y = go (ℕ_discrete y x)
 module _ (M : ℕ → ℕ → Type 0) (a b : ℕ) where
   -- ---- an object replaced by one of its form
   module _ (st r : State) (x : ℕ) (o : Object) (w : Put st r x o) (form : form_of o ≡ form_at st x) where
-    pub put_inv : (C R : ℕ → Type 0) → (C x → Own R o) → (R x → (j : ℕ) → SafeAt M a b st R (get_or (places_of o) j Blank)) → Inv M a b st C R → Inv M a b r C R
+    pub put_inv : (C R : ℕ → Type 0) → (C x → Own R o) → (R x → (j : ℕ) → SafeAt M a b st R (get_or (places_of o) j None)) → Inv M a b st C R → Inv M a b r C R
     put_inv C R own places h = record { own = λ p c. owns p c (ℕ_discrete p x); rights = λ t e q. rights t e q (ℕ_discrete t x) }
       where
         owns : (p : ℕ) → C p → Dec (p ≡ x) → Own R (in_slot r p)
         owns p c (yes e) = rw (e, w.here) (own (rw e at c))
         owns p c (no d) = rw (w.rest p d) (h.own p c)
 
-        rights : (t e : ℕ) → R t → Dec (t ≡ x) → SafeAt M a b r R (get_or (places_of (in_slot r t)) e Blank)
-        rights t e q (yes d) = rw (d, w.here) (safe_on M a b st r R R (λ u k. k) (far_forms M a b st r (put_forms st r x o w form)) (get_or (places_of o) e Blank) (places (rw d at q) e))
-        rights t e q (no d) = rw (w.rest t d) (safe_on M a b st r R R (λ u k. k) (far_forms M a b st r (put_forms st r x o w form)) (get_or (places_of (in_slot st t)) e Blank) (h.rights t e q))
+        rights : (t e : ℕ) → R t → Dec (t ≡ x) → SafeAt M a b r R (get_or (places_of (in_slot r t)) e None)
+        rights t e q (yes d) = rw (d, w.here) (safe_on M a b st r R R (λ u k. k) (far_forms M a b st r (put_forms st r x o w form)) (get_or (places_of o) e None) (places (rw d at q) e))
+        rights t e q (no d) = rw (w.rest t d) (safe_on M a b st r R R (λ u k. k) (far_forms M a b st r (put_forms st r x o w form)) (get_or (places_of (in_slot st t)) e None) (h.rights t e q))
 
   -- ---- an object made in free slots that are clear of the stretch
   module _ (st r : State) (f n : ℕ) (o : Object) (w : Raised st r f n o) (size : extent (form_of o) ≡ n) (pos : 0 < n) (clear : (x : ℕ) → In a b x → Out f n x) where
@@ -51,7 +51,7 @@ module _ (M : ℕ → ℕ → Type 0) (a b : ℕ) where
       objects = λ g x i c. ap form_of (w.rest g (λ l m. let z = rw (v g l m) at c.1 in let y = c.0 in omega arith));
     }
 
-    pub raised_inv : (C R : ℕ → Type 0) → ((j : ℕ) → get_or (places_of o) j Blank ≡ Blank) → Own R o → Inv M a b st C R → Inv M a b r (Joined C st r) (λ u. R u ⊎ (u ≡ f))
+    pub raised_inv : (C R : ℕ → Type 0) → ((j : ℕ) → get_or (places_of o) j None ≡ None) → Own R o → Inv M a b st C R → Inv M a b r (Joined C st r) (λ u. R u ⊎ (u ≡ f))
     raised_inv C R empty names h = record { own = λ p c. owns p c (side f n p); rights = λ t e q. rights t e q (side f n t) }
       where
         Q : ℕ → Type 0
@@ -63,10 +63,10 @@ module _ (M : ℕ → ℕ → Type 0) (a b : ℕ) where
         owns p (inl c) (outside d) = rw (w.rest p d) (own_on R Q (λ u q. inl q) (in_slot st p) (h.own p c))
         owns p (inr m) (outside d) = absurd (let k : 0 < extent_at st p = rw (w.rest p d) at m.0.after in let z = m.0.before in omega arith)
 
-        rights : (t e : ℕ) → Q t → Side f n t → SafeAt M a b r Q (get_or (places_of (in_slot r t)) e Blank)
+        rights : (t e : ℕ) → Q t → Side f n t → SafeAt M a b r Q (get_or (places_of (in_slot r t)) e None)
         rights t e q (first d) = rw (d, w.head, empty e) tt
         rights t e q (later l m) = rw (w.inner t l m) tt
-        rights t e (inl q) (outside d) = rw (w.rest t d) (safe_on M a b st r R Q (λ u k. inl k) raised_far (get_or (places_of (in_slot st t)) e Blank) (h.rights t e q))
+        rights t e (inl q) (outside d) = rw (w.rest t d) (safe_on M a b st r R Q (λ u k. inl k) raised_far (get_or (places_of (in_slot st t)) e None) (h.rights t e q))
         rights t e (inr q) (outside d) = absurd (d (omega arith) (omega arith))
 
   -- ---- an object that is far, taken away
@@ -108,6 +108,6 @@ module _ (M : ℕ → ℕ → Type 0) (a b : ℕ) where
         owns p c (inl d) = rw d tt
         owns p c (inr d) = rw d (h.own p c)
 
-        rights : (t e : ℕ) → R t → (in_slot r t ≡ free) ⊎ (in_slot r t ≡ in_slot st t) → SafeAt M a b r R (get_or (places_of (in_slot r t)) e Blank)
+        rights : (t e : ℕ) → R t → (in_slot r t ≡ free) ⊎ (in_slot r t ≡ in_slot st t) → SafeAt M a b r R (get_or (places_of (in_slot r t)) e None)
         rights t e q (inl d) = rw d tt
-        rights t e q (inr d) = rw d (safe_on M a b st r R R (λ u k. k) razed_far (get_or (places_of (in_slot st t)) e Blank) (h.rights t e q))
+        rights t e q (inr d) = rw d (safe_on M a b st r R R (λ u k. k) razed_far (get_or (places_of (in_slot st t)) e None) (h.rights t e q))

@@ -6,14 +6,14 @@ use Prim.Native.Nat.{◌<◌, suc, ℕ, ◌≤◌}
 use native.Mathlib.Omega.{arith}
 use Rattle.state.specs.State.{State, place_at}
 use Rattle.words.specs.Fields.{slot}
-use Rattle.apart.specs.Names.{Blank, Capability, Directory, Endpoint, Function, Holds, Kind, Memory, Origin, Place, Process, Root, Table, Under}
+use Rattle.apart.specs.Names.{None, Capability, Directory, Endpoint, Function, Some, Kind, Memory, Origin, Place, Process, Table}
 use Rattle.apart.specs.Reach.{In, NamesObject, Premise, Reach, Touches, address_of, memory, original, own, via}
 use Rattle.apart.proofs.Invariant.{Own}
 use Rattle.apart.proofs.View.{in_slot}
 
 abbrev pub Delegated : Origin → Type 0
-Delegated Root = ⊥
-Delegated (Under p) = Unit {0}
+Delegated None = ⊥
+Delegated (Some p) = Unit {0}
 
 abbrev pub CalmKind : (ℕ → Type 0) → ℕ → ℕ → Kind → Origin → Type 0
 CalmKind S a b (Table o) r = S o.0 × Delegated r
@@ -24,8 +24,8 @@ CalmKind S a b (Endpoint o) r = Delegated r
 CalmKind S a b (Function l h) r = Unit {0}
 
 abbrev pub Calm : (ℕ → Type 0) → ℕ → ℕ → Place → Type 0
-Calm S a b Blank = Unit {0}
-Calm S a b (Holds c) = CalmKind S a b c.kind c.origin
+Calm S a b None = Unit {0}
+Calm S a b (Some c) = CalmKind S a b c.kind c.origin
 
 module _ (st : State) (O S : ℕ → Type 0) (a b : ℕ) (owns : (p : ℕ) → O p → Own S (in_slot st p)) (calm : (t e : ℕ) → S t → Calm S a b (place_at st (slot t) e)) where
   pub reach_in : (t : ℕ) → Reach st O t → S t
@@ -35,7 +35,7 @@ module _ (st : State) (O S : ℕ → Type 0) (a b : ℕ) (owns : (p : ℕ) → O
       go : (x : Kind) → x ≡ Table o → CalmKind S a b x c.origin → S o.0
       go x q = subst (λ (y : Kind). CalmKind S a b y c.origin → S o.0) (sym q) (λ z. z.0)
 
-  not_root : (k : Kind) → NamesObject k → CalmKind S a b k Root → ⊥
+  not_root : (k : Kind) → NamesObject k → CalmKind S a b k None → ⊥
   not_root (Table o) n h = h.1
   not_root (Directory o l u) n h = h
   not_root (Memory l u) n h = n

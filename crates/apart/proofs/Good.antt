@@ -10,7 +10,7 @@ use Rattle.state.specs.State.{Object, State, boot_mark, directory, directory_nam
 use Rattle.words.specs.Fields.{count}
 use Rattle.words.specs.Rights.{object_of}
 use Rattle.apart.specs.Demand3.{Joined, Made, Same}
-use Rattle.apart.specs.Names.{Action, Answer, Blank, ChangeDirectory, ChangeTable, CreateDirectory, CreateEndpoint, CreateProcess, CreateTable, Delete, Directory, Empty, Endpoint, Fill, Freeze, Holds, Kind, Place, Process, Remove, SetCount, SetPosition, Slot, Spot, Table}
+use Rattle.apart.specs.Names.{Action, Answer, None, ChangeDirectory, ChangeTable, CreateDirectory, CreateEndpoint, CreateProcess, CreateTable, Delete, Directory, Empty, Endpoint, Fill, Freeze, Some, Kind, Place, Process, Remove, SetCount, SetPosition, Slot, Spot, Table}
 use Rattle.apart.specs.Reach.{address_of, extent, extent_at, form_at, form_of}
 use Rattle.apart.proofs.Invariant.{Far, Inv, Own, SafeAt, SafeKind}
 use Rattle.apart.proofs.View.{in_slot}
@@ -28,7 +28,7 @@ module _ (M : ℕ → ℕ → Type 0) (a b : ℕ) where
   pub record GoodPut (st : State) (C R : ℕ → Type 0) (x : ℕ) (o : Object) : Type 0 where
     pub form : form_of o ≡ form_at st x
     pub own : C x → Own R o
-    pub places : R x → (j : ℕ) → SafeAt M a b st R (get_or (places_of o) j Blank)
+    pub places : R x → (j : ℕ) → SafeAt M a b st R (get_or (places_of o) j None)
     pub fits : x < length st.slots
 
   -- the place at p becomes x, which is safe in a table of R
@@ -46,7 +46,7 @@ module _ (M : ℕ → ℕ → Type 0) (a b : ℕ) where
     pub some : 0 < n
     pub size : size_of o ≡ n
     pub extends : extent (form_of o) ≡ n
-    pub empty : (j : ℕ) → get_or (places_of o) j Blank ≡ Blank
+    pub empty : (j : ℕ) → get_or (places_of o) j None ≡ None
     pub names : Own R o
     pub kind : SafeKind M a b (λ u. R u ⊎ (u ≡ s.0)) k
     pub object : (object_of k).0 ≡ s.0
@@ -61,14 +61,14 @@ module _ (M : ℕ → ℕ → Type 0) (a b : ℕ) where
 
   -- what each action asks; C: the callers, R: the tables in the invariant
   abbrev pub Good : State → (ℕ → Type 0) → (ℕ → Type 0) → Action → Type 0
-  Good st C R (CreateTable p s n) = GoodCreate st R p s (table (replicate n Blank)) (Table s)
+  Good st C R (CreateTable p s n) = GoodCreate st R p s (table (replicate n None)) (Table s)
   Good st C R (CreateDirectory p s g) = GoodCreate st R p s (directory g (replicate (2 ^ g.number) Empty)) (Directory s 0 (2 ^ g.number - 1))
   Good st C R (CreateProcess p s t d) = GoodCreate st R p s (process t d) (Process s)
   Good st C R (CreateEndpoint p s) = GoodCreate st R p s (endpoint (count 0) false) (Endpoint s)
   Good st C R (Delete p o) = GoodDelete st p o
-  Good st C R (Fill p c) = GoodPlace st R p (Holds c)
+  Good st C R (Fill p c) = GoodPlace st R p (Some c)
   Good st C R (Freeze p) = GoodPlace st R p (froze st.clock (place_at st p.table p.entry))
-  Good st C R (Remove p) = GoodPlace st R p Blank
+  Good st C R (Remove p) = GoodPlace st R p None
   Good st C R (SetPosition d i x) = GoodPut st C R d.0 (directory (shape_at st d) (set (positions_of (obj_at st d)) i x))
   Good st C R (ChangeTable p t) = GoodPut st C R p.0 (process t (directory_named (obj_at st p)))
   Good st C R (ChangeDirectory p d) = GoodPut st C R p.0 (process (table_named (obj_at st p)) d)

@@ -8,7 +8,7 @@ use lib.ListN.{get_or}
 use Rattle.state.specs.State.{Object, State, body, directory, endpoint, free, places_of, process, table}
 use Rattle.words.specs.Rights.{object_of}
 use Rattle.apart.specs.Demand3.{Joined, Same}
-use Rattle.apart.specs.Names.{Blank, Capability, Directory, Endpoint, Function, Holds, Kind, Memory, Place, Process, Root, Table}
+use Rattle.apart.specs.Names.{None, Capability, Directory, Endpoint, Function, Some, Kind, Memory, Place, Process, Table}
 use Rattle.apart.specs.Reach.{In, NamesObject, address_of, extent, extent_at, form_at}
 use Rattle.apart.proofs.View.{in_slot}
 
@@ -58,16 +58,16 @@ module _ (M : ℕ → ℕ → Type 0) (a b : ℕ) where
   -- and a root's object is far from the stretch
   pub record Safe (st : State) (R : ℕ → Type 0) (c : Capability) : Type 0 where
     pub kind : SafeKind R c.kind
-    pub orig : NamesObject c.kind → c.origin ≡ Root → Far a b st (object_of c.kind).0
+    pub orig : NamesObject c.kind → c.origin ≡ None → Far a b st (object_of c.kind).0
 
   abbrev pub SafeAt : State → (ℕ → Type 0) → Place → Type 0
-  SafeAt st R Blank = Unit {0}
-  SafeAt st R (Holds c) = Safe st R c
+  SafeAt st R None = Unit {0}
+  SafeAt st R (Some c) = Safe st R c
 
   -- C: the callers. Their tables are in R, and each right in a table of R is safe
   pub record Inv (st : State) (C R : ℕ → Type 0) : Type 0 where
     pub own : (p : ℕ) → C p → Own R (in_slot st p)
-    pub rights : (t e : ℕ) → R t → SafeAt st R (get_or (places_of (in_slot st t)) e Blank)
+    pub rights : (t e : ℕ) → R t → SafeAt st R (get_or (places_of (in_slot st t)) e None)
 
   kind_on : (R Q : ℕ → Type 0) → ((u : ℕ) → R u → Q u) → (k : Kind) → SafeKind R k → SafeKind Q k
   kind_on R Q q (Table o) h = q o.0 h
@@ -79,8 +79,8 @@ module _ (M : ℕ → ℕ → Type 0) (a b : ℕ) where
 
   -- a right stays safe where more tables count as reached and each object stays far
   pub safe_on : (st r : State) (R Q : ℕ → Type 0) → ((u : ℕ) → R u → Q u) → ((f : ℕ) → Far a b st f → Far a b r f) → (p : Place) → SafeAt st R p → SafeAt r Q p
-  safe_on st r R Q q f Blank h = tt
-  safe_on st r R Q q f (Holds c) h = record { kind = kind_on R Q q c.kind h.kind; orig = λ n e. f (object_of c.kind).0 (h.orig n e) }
+  safe_on st r R Q q f None h = tt
+  safe_on st r R Q q f (Some c) h = record { kind = kind_on R Q q c.kind h.kind; orig = λ n e. f (object_of c.kind).0 (h.orig n e) }
 
   pub far_forms : (st r : State) → ((x : ℕ) → form_at r x ≡ form_at st x) → (f : ℕ) → Far a b st f → Far a b r f
   far_forms st r e f h x i p q = h x i p (rw (ap extent (e f)) at q)

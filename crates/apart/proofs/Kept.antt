@@ -13,7 +13,7 @@ use Rattle.state.specs.State.{Object, State, boot_mark, directory, directory_nam
 use Rattle.words.specs.Fields.{count}
 use Rattle.words.specs.Rights.{root_right}
 use Rattle.apart.specs.Demand3.{Joined, Made, Same}
-use Rattle.apart.specs.Names.{Action, Answer, Blank, ChangeDirectory, ChangeTable, CreateDirectory, CreateEndpoint, CreateProcess, CreateTable, Delete, Directory, Empty, Endpoint, Fill, Freeze, Holds, Kind, Place, Process, Remove, SetCount, SetPosition, Slot, Spot, Table}
+use Rattle.apart.specs.Names.{Action, Answer, None, ChangeDirectory, ChangeTable, CreateDirectory, CreateEndpoint, CreateProcess, CreateTable, Delete, Directory, Empty, Endpoint, Fill, Freeze, Some, Kind, Place, Process, Remove, SetCount, SetPosition, Slot, Spot, Table}
 use Rattle.apart.specs.Reach.{In, extent, extent_at, form_at, form_of}
 use Rattle.apart.proofs.Changes.{put_forms, put_inv, raised_inv, raised_same, raze_cases, razed_inv, razed_same}
 use Rattle.apart.proofs.Good.{Good, GoodCreate, GoodDelete, GoodPlace, GoodPut, Kept, Lot}
@@ -42,7 +42,7 @@ module _ (M : ℕ → ℕ → Type 0) (a b : ℕ) (m_clear : Clear M a b) where
       (same_forms a b st (put st s o) f)
 
   -- writing a place is putting a table
-  place_put : (st : State) (C R : ℕ → Type 0) (p : Spot) (x : Place) → ((t e : ℕ) → R t → SafeAt M a b st R (get_or (places_of (in_slot st t)) e Blank)) → GoodPlace M a b st R p x
+  place_put : (st : State) (C R : ℕ → Type 0) (p : Spot) (x : Place) → ((t e : ℕ) → R t → SafeAt M a b st R (get_or (places_of (in_slot st t)) e None)) → GoodPlace M a b st R p x
       → GoodPut M a b st C R p.table.0 (table (set (places_of (obj_at st p.table)) p.entry x))
   place_put st C R p x rights g = record {
     form = table_form (obj_at st p.table) p.entry x g.entry;
@@ -51,9 +51,9 @@ module _ (M : ℕ → ℕ → Type 0) (a b : ℕ) (m_clear : Clear M a b) where
     fits = entry_in st p.table p.entry g.entry;
   }
     where
-      go : R p.table.0 → (j : ℕ) → Dec (j ≡ p.entry) → SafeAt M a b st R (get_or (set (places_of (obj_at st p.table)) p.entry x) j Blank)
-      go q j (yes e) = rw (e, get_or-set_same (places_of (obj_at st p.table)) p.entry x Blank g.entry) g.safe
-      go q j (no d) = rw (get_or-set_other (places_of (obj_at st p.table)) p.entry j x Blank d) (rights p.table.0 j q)
+      go : R p.table.0 → (j : ℕ) → Dec (j ≡ p.entry) → SafeAt M a b st R (get_or (set (places_of (obj_at st p.table)) p.entry x) j None)
+      go q j (yes e) = rw (e, get_or-set_same (places_of (obj_at st p.table)) p.entry x None g.entry) g.safe
+      go q j (no d) = rw (get_or-set_other (places_of (obj_at st p.table)) p.entry j x None d) (rights p.table.0 j q)
 
   place_kept : (st : State) (C R : ℕ → Type 0) (p : Spot) (x : Place) → Inv M a b st C R → GoodPlace M a b st R p x → Kept M a b st (put_place st p x) C
   place_kept st C R p x h g = put_kept st C R p.table (table (set (places_of (obj_at st p.table)) p.entry x)) h (place_put st C R p x h.rights g)
@@ -94,10 +94,10 @@ module _ (M : ℕ → ℕ → Type 0) (a b : ℕ) (m_clear : Clear M a b) where
       inv₁ = raised_inv M a b st r₁ s.0 g.n o w g.extends g.some clear C R g.empty g.names h
 
       new : Object
-      new = table (set (places_of (obj_at r₁ p.table)) p.entry (Holds (root_right k)))
+      new = table (set (places_of (obj_at r₁ p.table)) p.entry (Some (root_right k)))
 
       put₁ : GoodPut M a b r₁ (Joined C st r₁) Q p.table.0 new
-      put₁ = place_put r₁ (Joined C st r₁) Q p (Holds (root_right k)) inv₁.rights (record { entry = rw (w.rest p.table.0 t_out) g.entry; safe = safe })
+      put₁ = place_put r₁ (Joined C st r₁) Q p (Some (root_right k)) inv₁.rights (record { entry = rw (w.rest p.table.0 t_out) g.entry; safe = safe })
 
       v : Put r₁ r₂ p.table.0 new
       v = puts r₁ p.table new put₁.fits
@@ -117,23 +117,23 @@ module _ (M : ℕ → ℕ → Type 0) (a b : ℕ) (m_clear : Clear M a b) where
       made x m (later l q) = absurd (let z : 0 < 0 = rw (forms x, w.inner x l q) at m.after in omega arith)
       made x m (outside d) = absurd (let z : 0 < extent_at st x = rw (forms x, w.rest x d) at m.after in let y = m.before in omega arith)
 
-  delete_kept : (st : State) (C R : ℕ → Type 0) (p : Spot) (o : Slot) → Inv M a b st C R → GoodDelete M a b st p o → Kept M a b st (raze (put_place st p Blank) o) C
+  delete_kept : (st : State) (C R : ℕ → Type 0) (p : Spot) (o : Slot) → Inv M a b st C R → GoodDelete M a b st p o → Kept M a b st (raze (put_place st p None) o) C
   delete_kept st C R p o h g =
       kept st r₂ C R sizes (razed_inv M a b r₁ r₂ o.0 w far C R (put_inv M a b st r₁ p.table.0 new v put₁.form C R put₁.own put₁.places h))
       (same_trans a b st r₁ r₂ (same_forms a b st r₁ forms)
       (razed_same M a b r₁ r₂ o.0 w far (λ x l m. rw (forms x) (g.inner x l (rw (forms o.0) at m)))))
     where
       r₁ : State
-      r₁ = put_place st p Blank
+      r₁ = put_place st p None
 
       r₂ : State
       r₂ = raze r₁ o
 
       new : Object
-      new = table (set (places_of (obj_at st p.table)) p.entry Blank)
+      new = table (set (places_of (obj_at st p.table)) p.entry None)
 
       put₁ : GoodPut M a b st C R p.table.0 new
-      put₁ = place_put st C R p Blank h.rights (record { entry = g.entry; safe = tt })
+      put₁ = place_put st C R p None h.rights (record { entry = g.entry; safe = tt })
 
       v : Put st r₁ p.table.0 new
       v = puts st p.table new put₁.fits
@@ -158,14 +158,14 @@ module _ (M : ℕ → ℕ → Type 0) (a b : ℕ) (m_clear : Clear M a b) where
           go (inr e) = ap (λ (y : Object). extent (form_of y)) e ∙ ap extent (forms x)
 
   pub good_kept : (st : State) (C R : ℕ → Type 0) (x : Action) → Inv M a b st C R → Good M a b st C R x → Kept M a b st (commit st x) C
-  good_kept st C R (CreateTable p s n) h g = create_kept st C R p s (table (replicate n Blank)) (Table s) h g
+  good_kept st C R (CreateTable p s n) h g = create_kept st C R p s (table (replicate n None)) (Table s) h g
   good_kept st C R (CreateDirectory p s g) h k = create_kept st C R p s (directory g (replicate (2 ^ g.number) Empty)) (Directory s 0 (2 ^ g.number - 1)) h k
   good_kept st C R (CreateProcess p s t d) h g = create_kept st C R p s (process t d) (Process s) h g
   good_kept st C R (CreateEndpoint p s) h g = create_kept st C R p s (endpoint (count 0) false) (Endpoint s) h g
   good_kept st C R (Delete p o) h g = delete_kept st C R p o h g
-  good_kept st C R (Fill p c) h g = place_kept st C R p (Holds c) h g
+  good_kept st C R (Fill p c) h g = place_kept st C R p (Some c) h g
   good_kept st C R (Freeze p) h g = place_kept st C R p (froze st.clock (place_at st p.table p.entry)) h g
-  good_kept st C R (Remove p) h g = place_kept st C R p Blank h g
+  good_kept st C R (Remove p) h g = place_kept st C R p None h g
   good_kept st C R (SetPosition d i x) h g = put_kept st C R d (directory (shape_at st d) (set (positions_of (obj_at st d)) i x)) h g
   good_kept st C R (ChangeTable p t) h g = put_kept st C R p (process t (directory_named (obj_at st p))) h g
   good_kept st C R (ChangeDirectory p d) h g = put_kept st C R p (process (table_named (obj_at st p)) d) h g

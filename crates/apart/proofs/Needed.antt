@@ -12,7 +12,7 @@ use Rattle.words.specs.Rights.{root_right}
 use Rattle.words.specs.Tests.{◌&◌}
 use Rattle.apart.specs.Demand3.{By, Same, itself, run}
 use Rattle.apart.specs.Example.{Others, leaky, loose, removal, stations, theft}
-use Rattle.apart.specs.Names.{Capability, Endpoint, Holds, Memory, Thawed, Under}
+use Rattle.apart.specs.Names.{Capability, Endpoint, Some, Memory, Thawed}
 use Rattle.apart.specs.Reach.{Premise, Touches, extent, extent_at, memory, original, own}
 use Rattle.apart.proofs.Example.{words32}
 use Rattle.apart.proofs.View.{in_slot}
@@ -23,13 +23,13 @@ unfolding opened stations leaky
 wf_leaky = refl
 
 abbrev leak : Capability
-leak = record { kind = Memory (address 0x20002600) (address 0x20002800); flags = 63; frost = Thawed; origin = Under 4 }
+leak = record { kind = Memory (address 0x20002600) (address 0x20002800); flags = 63; frost = Thawed; origin = Some 4 }
 
 reader_leaky : in_slot leaky 68 ≡ process (slot 64) (slot 16)
 unfolding opened stations leaky
 reader_leaky = refl
 
-leak_held : place_at leaky (slot 64) 5 ≡ Holds leak
+leak_held : place_at leaky (slot 64) 5 ≡ Some leak
 unfolding opened stations leaky
 leak_held = refl
 
@@ -63,7 +63,7 @@ reader_loose : in_slot loose 68 ≡ process (slot 64) (slot 16)
 unfolding opened stations loose
 reader_loose = refl
 
-root_held : place_at loose (slot 64) 5 ≡ Holds (root_right (Endpoint (slot 140)))
+root_held : place_at loose (slot 64) 5 ≡ Some (root_right (Endpoint (slot 140)))
 unfolding opened stations loose
 root_held = refl
 

@@ -12,7 +12,7 @@ use Rattle.state.proofs.Write.{is_directory, is_endpoint, is_process, is_table, 
 use Rattle.state.specs.State.{Object, State, body, boot_mark, directory, endpoint, entries_in, free, obj_at, places_of, positions_in, positions_of, process, shape_of, size_of, table, table_named}
 use Rattle.words.specs.Rights.{is_root}
 use Rattle.words.specs.Sizes.{entry_size, header_size, position_size, slots_for}
-use Rattle.apart.specs.Names.{Origin, Place, Position, Root, Slot, Under}
+use Rattle.apart.specs.Names.{Origin, Place, Position, None, Slot, Some}
 use Rattle.apart.specs.Reach.{Form, extent, form_of}
 use Rattle.apart.proofs.Invariant.{Own}
 
@@ -66,9 +66,9 @@ extent_real (directory g es) h = omega arith
 extent_real (process u d) h = omega arith
 extent_real (endpoint c b) h = omega arith
 
-pub root_of : (o : Origin) → is_root o ≡ true → o ≡ Root
-root_of Root t = refl
-root_of (Under p) t = absurd (false≢true t)
+pub root_of : (o : Origin) → is_root o ≡ true → o ≡ None
+root_of None t = refl
+root_of (Some p) t = absurd (false≢true t)
 
 -- what is not free is in memory
 pub real_in : (st : State) (s : Slot) → 0 < object_no (obj_at st s) → s.0 < length st.slots

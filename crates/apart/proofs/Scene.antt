@@ -10,7 +10,7 @@ use Rattle.rules.proofs.Facts.{wf_open}
 use Rattle.rules.specs.Formed.{Formed}
 use Rattle.rules.specs.WellFormed.{still, wf}
 use Rattle.state.specs.State.{State, place_at}
-use Rattle.apart.specs.Names.{Action, Capability, Holds, Kind, Slot, Spot, Table}
+use Rattle.apart.specs.Names.{Action, Capability, Some, Kind, Slot, Spot, Table}
 use Rattle.apart.proofs.Good.{Good}
 use Rattle.apart.proofs.Invariant.{Inv, Parts, Safe, SafeAt, SafeKind}
 
@@ -33,7 +33,7 @@ module _ {M : ℕ → ℕ → Type 0} {a b : ℕ} (S : Scene M a b) where
   slots_formed = (wf_open S.st S.formed).shape
 
   -- a right in a table of R
-  held_safe : (u : Slot) (e : ℕ) (c : Capability) → S.R u.0 → place_at S.st u e ≡ Holds c → Safe M a b S.st S.R c
+  held_safe : (u : Slot) (e : ℕ) (c : Capability) → S.R u.0 → place_at S.st u e ≡ Some c → Safe M a b S.st S.R c
   held_safe u e c r h = subst (SafeAt M a b S.st S.R) h (S.inv.rights u.0 e r)
 
   -- the table in which a number finds its right

@@ -5,7 +5,7 @@ use native.Mathlib.Omega.{arith}
 use Rattle.state.specs.State.{Object, State, body, directory, endpoint, free, obj_at, place_at, process, table}
 use Rattle.words.specs.Fields.{slot}
 use Rattle.apart.specs.Demand3.{Inside}
-use Rattle.apart.specs.Names.{Blank, Capability, Directory, Endpoint, Function, Holds, KernelAddress, Kind, Memory, Place, Process, Table}
+use Rattle.apart.specs.Names.{None, Capability, Directory, Endpoint, Function, Some, KernelAddress, Kind, Memory, Place, Process, Table}
 use Rattle.apart.specs.Reach.{Premise, Reach, memory, original, own, via}
 use Rattle.apart.proofs.Good.{Lot}
 use Rattle.apart.proofs.Invariant.{Clear, Inv, Own, Parts, SafeAt, SafeKind}
@@ -20,7 +20,7 @@ module _ (st₀ : State) (O : ℕ → Type 0) where
     pub low : KernelAddress
     pub high : KernelAddress
     pub reached : Reach st₀ O table_at
-    pub holds : place_at st₀ (slot table_at) entry ≡ Holds right
+    pub holds : place_at st₀ (slot table_at) entry ≡ Some right
     pub kind : right.kind ≡ Memory low high
     pub from : low.0 ≤ lo
     pub to : hi ≤ high.0
@@ -66,7 +66,7 @@ module _ (st₀ : State) (O : ℕ → Type 0) where
     start_own p c (process t d) e = own c e
     start_own p c (endpoint n m) e = tt
 
-    start_kind : (t e : ℕ) → Reach st₀ O t → (c : Capability) → place_at st₀ (slot t) e ≡ Holds c → (k : Kind) → c.kind ≡ k → SafeKind Within a b (Reach st₀ O) k
+    start_kind : (t e : ℕ) → Reach st₀ O t → (c : Capability) → place_at st₀ (slot t) e ≡ Some c → (k : Kind) → c.kind ≡ k → SafeKind Within a b (Reach st₀ O) k
     start_kind t e r c h (Table o) k = via e r h k
     start_kind t e r c h (Directory o l u) k = tt
     start_kind t e r c h (Memory l u) k =
@@ -76,8 +76,8 @@ module _ (st₀ : State) (O : ℕ → Type 0) where
     start_kind t e r c h (Function l u) k = tt
 
     start_place : (t e : ℕ) → Reach st₀ O t → (p : Place) → place_at st₀ (slot t) e ≡ p → SafeAt Within a b st₀ (Reach st₀ O) p
-    start_place t e r Blank h = tt
-    start_place t e r (Holds c) h = record { kind = start_kind t e r c h c.kind refl; orig = λ n o x i p q. premise t e c r h (original x n o i (p, q)) }
+    start_place t e r None h = tt
+    start_place t e r (Some c) h = record { kind = start_kind t e r c h c.kind refl; orig = λ n o x i p q. premise t e c r h (original x n o i (p, q)) }
 
     pub start : Inv Within a b st₀ O (Reach st₀ O)
     start = record { own = λ p c. start_own p c (in_slot st₀ p) refl; rights = λ t e r. start_place t e r (place_at st₀ (slot t) e) refl }

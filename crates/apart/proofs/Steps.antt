@@ -11,8 +11,8 @@ use Rattle.rules.specs.Run.{Event, call, step, tick}
 use Rattle.rules.specs.WellFormed.{wf}
 use Rattle.state.specs.State.{State, places_of}
 use Rattle.words.specs.Tests.{choose}
-use Rattle.words.specs.Try.{Try, no!, ok! }
-use Rattle.apart.specs.Names.{Action, Blank, Holds, Place, Words}
+use Rattle.words.specs.Try.{Try, Err, Ok}
+use Rattle.apart.specs.Names.{Action, None, Some, Place, Words}
 use Rattle.apart.proofs.Actions.{action_good}
 use Rattle.apart.proofs.Good.{Good, Kept}
 use Rattle.apart.proofs.Invariant.{Clear, Inv, Own, Parts, SafeAt}
@@ -30,13 +30,13 @@ Caller C tick = Unit {0}
 Caller C (call p w) = C p
 
 module _ (M : ℕ → ℕ → Type 0) (a b : ℕ) (m_clear : Clear M a b) (m_parts : Parts M) where
-  after_kept : (st : State) (C R : ℕ → Type 0) → Inv M a b st C R → (m : Try Action) → ((x : Action) → m ≡ ok! x → Good M a b st C R x)
+  after_kept : (st : State) (C R : ℕ → Type 0) → Inv M a b st C R → (m : Try Action) → ((x : Action) → m ≡ Ok x → Good M a b st C R x)
       → Kept M a b st (after st m) C
-  after_kept st C R h (no! r) g = idle_kept M a b m_clear st C R h
-  after_kept st C R h (ok! x) g = good_kept M a b m_clear st C R x h (g x refl)
+  after_kept st C R h (Err r) g = idle_kept M a b m_clear st C R h
+  after_kept st C R h (Ok x) g = good_kept M a b m_clear st C R x h (g x refl)
 
   plan_good : (st : State) (C R : ℕ → Type 0) → wf st ≡ true → Inv M a b st C R → (p : ℕ) → C p → (w : Words) (x : Action)
-      → plan st p w ≡ ok! x → Good M a b st C R x
+      → plan st p w ≡ Ok x → Good M a b st C R x
   plan_good st C R f h p c w x e =
       let k = passed st p w x e in
       action_good (record { st = st; formed = f; C = C; R = R; inv = h; t = k.table; own = subst (Own R) k.named (h.own p c); parts = m_parts }) w x k.shown
@@ -48,15 +48,15 @@ module _ (M : ℕ → ℕ → Type 0) (a b : ℕ) (m_clear : Clear M a b) (m_par
     reach = k.reach;
     inv = record {
       own = λ p c. k.inv.own p (elim c [ inl q ↦ inl q | inr m ↦ inr (record { before = m.0.before; after = m.0.after }, m.1) ]);
-      rights = λ t e q. again (get_or (places_of (in_slot st t)) e Blank) (k.inv.rights t e q);
+      rights = λ t e q. again (get_or (places_of (in_slot st t)) e None) (k.inv.rights t e q);
     };
     same = record { slots = k.same.slots; objects = k.same.objects };
     made = λ f m. k.made f (record { before = m.before; after = m.after });
   }
     where
       again : (p : Place) → SafeAt M a b st k.reach p → SafeAt M a b (ticked st) k.reach p
-      again Blank h = tt
-      again (Holds c) h = record { kind = h.kind; orig = h.orig }
+      again None h = tt
+      again (Some c) h = record { kind = h.kind; orig = h.orig }
 
   pub step_kept : (st : State) (C R : ℕ → Type 0) → Inv M a b st C R → (e : Event) → Caller C e → Kept M a b st (step st e) C
   unfolding step

@@ -5,7 +5,7 @@ use Rattle.words.specs.Fields.{slot}
 use Rattle.state.specs.State.{State, place_at}
 use Rattle.state.specs.Read.{read}
 use Rattle.rules.specs.Run.{Event, tick, call, step, happens}
-use Rattle.apart.specs.Names.{KernelAddress, Memory, Words, Capability, Holds}
+use Rattle.apart.specs.Names.{KernelAddress, Memory, Words, Capability, Some}
 use Rattle.apart.specs.Reach.{process, form_at, extent_at, Covers, In, address_of, Reach, Premise}
 
 -- "Four words"; "32-bit words"
@@ -37,7 +37,7 @@ pub record Inside (st : State) (O : ℕ → Type 0) (f n : ℕ) : Type 0 where
   pub low : KernelAddress
   pub high : KernelAddress
   pub reached : Reach st O table_at
-  pub holds : place_at st (slot table_at) entry ≡ Holds right
+  pub holds : place_at st (slot table_at) entry ≡ Some right
   pub kind : right.kind ≡ Memory low high
   pub from : low.0 ≤ address_of f
   pub to : address_of (f + n) ≤ high.0

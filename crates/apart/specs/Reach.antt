@@ -6,7 +6,7 @@ use Rattle.words.specs.Rights.{object_of}
 use Rattle.words.specs.Fields.{slot}
 use Rattle.state.specs.State.{Object, State, obj_at, place_at}
 use Rattle.state.specs.State as S
-use Rattle.apart.specs.Names.{Slot, KernelAddress, Geometry, Kind, Table, Directory, Memory, Process, Endpoint, Function, Root, Capability, Holds}
+use Rattle.apart.specs.Names.{Slot, KernelAddress, Geometry, Kind, Table, Directory, Memory, Process, Endpoint, Function, None, Capability, Some}
 
 -- ---- what stands in a slot, contents apart: "the same objects" keep kind, first slot, size, a directory's shape and the boot endpoint's mark.
 -- `body first`: the object whose first slot is `first` goes on here
@@ -58,7 +58,7 @@ address_of x = kernel_start + slot_size * x
 -- O: the others, by the slots of their processes
 pub data Reach (st : State) (O : ℕ → Type 0) : ℕ → Type 0 where
   own : {p : ℕ} {t d : Slot} → O p → obj_at st (slot p) ≡ S.process t d → Reach st O t.0
-  via : {t : ℕ} {c : Capability} {o : Slot} (e : ℕ) → Reach st O t → place_at st (slot t) e ≡ Holds c → c.kind ≡ Table o → Reach st O o.0
+  via : {t : ℕ} {c : Capability} {o : Slot} (e : ℕ) → Reach st O t → place_at st (slot t) e ≡ Some c → c.kind ≡ Table o → Reach st O o.0
 
 -- ---- "a memory right touching the stretch": "the upper is excluded".
 -- "an original right to an object touching it": "An original right is a root."
@@ -72,8 +72,8 @@ NamesObject (Function l h) = ⊥
 
 pub data Touches (st : State) (a b : ℕ) (c : Capability) : Type 0 where
   memory : (l h : KernelAddress) (x : ℕ) → c.kind ≡ Memory l h → In a b x → l.0 < address_of (suc x) → address_of x < h.0 → Touches st a b c
-  original : (x : ℕ) → NamesObject c.kind → c.origin ≡ Root → In a b x → Covers st (object_of c.kind).0 x → Touches st a b c
+  original : (x : ℕ) → NamesObject c.kind → c.origin ≡ None → In a b x → Covers st (object_of c.kind).0 x → Touches st a b c
 
 -- ---- "in no table the others can reach, through any table they reach"
 abbrev pub Premise : State → (ℕ → Type 0) → ℕ → ℕ → Type 0
-Premise st O a b = (t e : ℕ) (c : Capability) → Reach st O t → place_at st (slot t) e ≡ Holds c → Touches st a b c → ⊥
+Premise st O a b = (t e : ℕ) (c : Capability) → Reach st O t → place_at st (slot t) e ≡ Some c → Touches st a b c → ⊥

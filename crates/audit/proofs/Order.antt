@@ -10,6 +10,7 @@ use borrow.Author.Tests.{lt-ltb}
 use mir.Syntax.{w8}
 use mir.Val.{Fits}
 use Rattle.audit_chains.specs.Chains.{chained}
+use Rattle.audit_rights.proofs.Standing.{and_true}
 use Rattle.audit_rights.specs.ButChain.{descends_but_chain, right_but_chain}
 use Rattle.rules.specs.Buffer.{same, sound}
 use Rattle.rules.specs.WellFormed.{apart, descends, every_object, every_place, formed, object_ok, right, right_ok, rooted, wf}
@@ -20,7 +21,7 @@ use Rattle.words.proofs.Tests.{all_at, all_of, all_same, and_both, and_left, and
 use Rattle.words.specs.Fields.{slot}
 use Rattle.words.specs.Sizes.{clock_offset, slot_count, state_length}
 use Rattle.words.specs.Tests.{◌&◌, all_below}
-use Rattle.audit.specs.Names.{Blank, Capability, Holds, Origin, Place, Root, Under}
+use Rattle.audit.specs.Names.{None, Capability, Some, Origin, Place}
 use Rattle.audit.proofs.Still.{still_formed}
 
 -- ---- tests that are asked one after the other, in another order
@@ -29,11 +30,6 @@ all_and n p q =
     iff _ _
     (λ h. and_both _ _ (all_of n p (λ x l. and_left _ _ (all_at n _ h x l))) (all_of n q (λ x l. and_right _ _ (all_at n _ h x l))))
     (λ h. all_of n _ (λ x l. and_both _ _ (all_at n p (and_left _ _ h) x l) (all_at n q (and_right _ _ h) x l)))
-
-and_true : (a : Bool) → (a & true) ≡ a
-unfolding ◌&◌
-and_true true = refl
-and_true false = refl
 
 last_out : (n e f s d k : Bool) → (n & e & f & s & d & k) ≡ ((n & e & f & s & d) & k)
 unfolding ◌&◌
@@ -76,8 +72,8 @@ in_turn size same laid rights chains roots objects time t = iff _ _ there back
 module _ (st : State) where
   descent_parts : (c : Capability) (o : Origin) → descends st c o ≡ (descends_but_chain st c o & chained st o)
   unfolding descends descends_but_chain chained
-  descent_parts c Root = sym (and_true (descends_but_chain st c Root))
-  descent_parts c (Under p) = refl
+  descent_parts c None = sym (and_true (descends_but_chain st c None))
+  descent_parts c (Some p) = refl
 
   right_parts : (c : Capability) → right_ok st c ≡ (right_but_chain st c & chained st c.origin)
   unfolding right_ok right_but_chain
@@ -85,8 +81,8 @@ module _ (st : State) where
 
   place_parts : (p : Place) → right (right_ok st) p ≡ (right (right_but_chain st) p & right (λ c. chained st c.origin) p)
   unfolding ◌&◌
-  place_parts Blank = refl
-  place_parts (Holds c) = right_parts c
+  place_parts None = refl
+  place_parts (Some c) = right_parts c
 
   places_parts : every_place st (right (right_ok st)) ≡ (every_place st (right (right_but_chain st)) & every_place st (right (λ c. chained st c.origin)))
   unfolding every_place

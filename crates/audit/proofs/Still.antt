@@ -8,7 +8,7 @@ use Rattle.state.specs.State.{Object, State, body, directory, endpoint, free, pr
 use Rattle.words.proofs.Tests.{all_same}
 use Rattle.words.specs.Fields.{slot}
 use Rattle.words.specs.Tests.{◌&◌}
-use Rattle.audit.specs.Names.{Capability, Child, Directory, Empty, Endpoint, Function, Geometry, Kind, Memory, Origin, Page, Position, Process, Root, Slot, Table, Under}
+use Rattle.audit.specs.Names.{Capability, Child, Directory, Empty, Endpoint, Function, Geometry, Kind, Memory, Origin, Page, Position, Process, None, Slot, Table, Some}
 
 module _ (st : State) where
   names_still : (k : Kind) → names (still st) k ≡ names st k
@@ -40,8 +40,8 @@ module _ (st : State) where
 
   descent_still : (c : Capability) (o : Origin) → descends (still st) c o ≡ descends st c o
   unfolding descends
-  descent_still c Root = rw (whole_still c.kind)
-  descent_still c (Under p) = refl
+  descent_still c None = rw (whole_still c.kind)
+  descent_still c (Some p) = refl
 
   right_still : (c : Capability) → right_ok (still st) c ≡ right_ok st c
   unfolding right_ok

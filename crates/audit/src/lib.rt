@@ -22,22 +22,11 @@ pub fn well_formed(s: &[u8]) -> bool
         return false;
     }
     let n = used(s);
-    if !laid_out(s, n) {
-        return false;
-    }
-    if !canonical(s, n) {
+    if !laid_out(s, n) || !canonical(s, n) {
         return false;
     }
     let mut heads = [0u8; SLOT_COUNT];
     let m = list_heads(s, n, &mut heads);
-    if !objects_ok(s, &heads, m) {
-        return false;
-    }
-    if !rights_ok(s, &heads, m) {
-        return false;
-    }
-    if !roots_ok(s, &heads, m) {
-        return false;
-    }
-    chains_ok(s, &heads, m)
+    let heads = &heads[..m];
+    objects_ok(s, heads) && rights_ok(s, heads) && roots_ok(s, heads) && chains_ok(s, heads)
 }

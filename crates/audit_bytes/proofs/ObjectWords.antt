@@ -19,7 +19,7 @@ use Rattle.words.proofs.Tests.{and_yes, iff}
 use Rattle.words.specs.Sizes.{entry_size, header_size, position_size, slot_count, slot_size, slots_for}
 use Rattle.words.specs.Tests.{◌&◌, all_below}
 use Rattle.audit_bytes.specs.Clean.{zero_words}
-use Rattle.audit_bytes.specs.Names.{Blank, Empty, Place, Position}
+use Rattle.audit_bytes.specs.Names.{None, Empty, Place, Position}
 use Rattle.audit_bytes.specs.Stands.{directory_in, endpoint_in, place_stands, position_stands, process_in, starts, table_in}
 use Rattle.audit_bytes.proofs.Runs.{starts_listed, zeros_stand}
 use Rattle.audit_bytes.proofs.Starts.{starts_append}
@@ -49,7 +49,7 @@ module _ (p : List ℕ) (u : Bytes p) where
       let m : length (listed n f) ≡ n = listed_length n f in
       own_then_zeros (table_in p n) (entry_size * n) (8 * (n % 2)) (table_length (listed n f) ∙ ap (λ (i : ℕ). entry_size * i) m) (omega arith) (omega arith)
       ∙ ap (λ (x : Bool). x & zero_words p (entry_size * n) (8 * (n % 2)))
-      (starts_listed place_bytes 32 place_length Blank n f p 0 ∙ all_agree n _ _ (λ i k. ap (λ (j : ℕ). starts (place_bytes (f i)) (drop j p)) (zero-add (entry_size * i))))
+      (starts_listed place_bytes 32 place_length None n f p 0 ∙ all_agree n _ _ (λ i k. ap (λ (j : ℕ). starts (place_bytes (f i)) (drop j p)) (zero-add (entry_size * i))))
 
   header_stands : 32 ≤ length p
       → starts (words_bytes (word_at p 0 ∷ mark (marked (word_at p 4)) ∷ word_at p 8 ∷ 0 ∷ 0 ∷ 0 ∷ 0 ∷ 0 ∷ [])) p ≡ (leb (word_at p 4) 1 & zero_words p 12 5)

@@ -1,6 +1,7 @@
 -- An entry stands exactly where its words are clean: flags and parent are read and written again as they are.
 use mathlib.Core.Bool.{Bool, false, true}
 use mathlib.Core.List.{List, [], ◌∷◌}
+use mathlib.Core.Logic.{inl, inr}
 use mathlib.Core.Path.{ap, ap₂, refl, sym, ◌∙◌, ◌≡◌}
 use Prim.Native.Nat.{◌+◌, ◌<◌, ◌^◌, ℕ, ◌≤◌}
 use native.Mathlib.Nat.{add-zero}
@@ -11,37 +12,16 @@ use borrow.Author.Tests.{eq-eqb, eqb-false, eqb-true, ne_eqb}
 use Rattle.state.specs.Bytes.{frozen_no, parent_no, place_bytes, words_bytes}
 use Rattle.state.specs.Read.{frost_from, held, origin_from, place_from, place_of, word_at}
 use Rattle.words.proofs.Tests.{and_no, and_yes}
+use Rattle.audit_entries.proofs.Entries.{place_cases}
 use Rattle.words.specs.Fields.{address, slot}
 use Rattle.words.specs.Rights.{high_of, kind_no, low_of, object_of, stamp_of}
 use Rattle.words.specs.Tests.{◌&◌}
 use Rattle.audit_bytes.specs.Clean.{frost_clean, kind_clean, object_alone, zero_words}
-use Rattle.audit_bytes.specs.Names.{Blank, Directory, Endpoint, Frost, Function, Kind, Memory, Origin, Place, Process, Slot, Table}
+use Rattle.audit_bytes.specs.Names.{None, Directory, Endpoint, Function, Kind, Memory, Process, Table}
 use Rattle.audit_bytes.specs.Stands.{place_stands, starts}
 use Rattle.audit_bytes.proofs.Runs.{zeros_front, zeros_stand}
 use Rattle.audit_bytes.proofs.Tests.{and_assoc, and_end, eqb_self}
 use Rattle.audit_bytes.proofs.Words.{Bytes, word_fits, word_slot, words_stand}
-
-place_cases : (P : Place → Type 0) (t : ℕ) (o : Slot) (l h f : ℕ) (x : Frost) (r : Origin)
-    → (t ≡ 1 → P (held (Table o) f x r))
-    → (t ≡ 2 → P (held (Directory o l h) f x r))
-    → (t ≡ 3 → P (held (Memory (address l) (address h)) f x r))
-    → (t ≡ 4 → P (held (Process o) f x r))
-    → (t ≡ 5 → P (held (Endpoint o) f x r))
-    → (t ≡ 6 → P (held (Function l h) f x r))
-    → ((t ≡ 1 → ⊥) → (t ≡ 2 → ⊥) → (t ≡ 3 → ⊥) → (t ≡ 4 → ⊥) → (t ≡ 5 → ⊥) → (t ≡ 6 → ⊥) → P Blank)
-    → P (place_from t o l h f x r)
-unfolding place_from
-place_cases P t o l h f x r f1 f2 f3 f4 f5 f6 f0 = go (eqb t 1) (eqb t 2) (eqb t 3) (eqb t 4) (eqb t 5) (eqb t 6) refl refl refl refl refl refl
-  where
-    go : (z1 z2 z3 z4 z5 z6 : Bool) → eqb t 1 ≡ z1 → eqb t 2 ≡ z2 → eqb t 3 ≡ z3 → eqb t 4 ≡ z4 → eqb t 5 ≡ z5 → eqb t 6 ≡ z6 → P (place_from t o l h f x r)
-    go true z2 z3 z4 z5 z6 e1 e2 e3 e4 e5 e6 = rw e1 (f1 (eqb-true _ _ e1))
-    go false true z3 z4 z5 z6 e1 e2 e3 e4 e5 e6 = rw (e1, e2) (f2 (eqb-true _ _ e2))
-    go false false true z4 z5 z6 e1 e2 e3 e4 e5 e6 = rw (e1, e2, e3) (f3 (eqb-true _ _ e3))
-    go false false false true z5 z6 e1 e2 e3 e4 e5 e6 = rw (e1, e2, e3, e4) (f4 (eqb-true _ _ e4))
-    go false false false false true z6 e1 e2 e3 e4 e5 e6 = rw (e1, e2, e3, e4, e5) (f5 (eqb-true _ _ e5))
-    go false false false false false true e1 e2 e3 e4 e5 e6 = rw (e1, e2, e3, e4, e5, e6) (f6 (eqb-true _ _ e6))
-    go false false false false false false e1 e2 e3 e4 e5 e6 =
-        rw (e1, e2, e3, e4, e5, e6) (f0 (eqb-false _ _ e1) (eqb-false _ _ e2) (eqb-false _ _ e3) (eqb-false _ _ e4) (eqb-false _ _ e5) (eqb-false _ _ e6))
 
 -- ---- the frozen mark with its stamp, and the parent
 frost_words : (m s : ℕ) → (eqb m (frozen_no (frost_from m s)) & (eqb s (stamp_of (frost_from m s)) & true)) ≡ frost_clean m s
@@ -118,7 +98,7 @@ module _ (l : List ℕ) (u : Bytes l) (at : ℕ) (in_it : at + 32 ≤ length l) 
   object_small = omega (arith, u (at + 16))
 
   -- no kind: eight zero words
-  zeros : starts (place_bytes Blank) (drop at l) ≡ (eqb kind 0 & zero_words l (at + 4) 7)
+  zeros : starts (place_bytes None) (drop at l) ≡ (eqb kind 0 & zero_words l (at + 4) 7)
   unfolding place_bytes
   zeros = zeros_stand l u at 8 (omega arith) ∙ zeros_front l at 7
 
@@ -136,6 +116,10 @@ module _ (l : List ℕ) (u : Bytes l) (at : ℕ) (in_it : at + 32 ≤ length l) 
       (λ e. right_stands (Process (slot object)) (omega arith) (omega arith) (omega arith) object_small ∙ rw e (and_yes _ _ refl ∙ alone))
       (λ e. right_stands (Endpoint (slot object)) (omega arith) (omega arith) (omega arith) object_small ∙ rw e (and_yes _ _ refl ∙ alone))
       (λ e. right_stands (Function (W 8) (W 12)) (omega arith) (word_fits l u (at + 8)) (word_fits l u (at + 12)) (omega arith) ∙ rw e (and_yes _ _ refl ∙ ranged (eqb (W 16) 0)))
-      (λ d1 d2 d3 d4 d5 d6.
-      zeros ∙ and_no _ _ (ne_eqb _ _ d)
-      ∙ rw (ne_eqb _ _ d1, ne_eqb _ _ d2, ne_eqb _ _ d3, ne_eqb _ _ d4, ne_eqb _ _ d5, ne_eqb _ _ d6) (sym (and_no _ _ refl)))
+      (λ none. elim none [
+        | inl z ↦ absurd (d z)
+        | inr h ↦
+            let other : (k : ℕ) → k ≤ 6 → eqb kind k ≡ false = λ k m. ne_eqb kind k (λ e. omega arith) in
+            zeros ∙ and_no _ _ (ne_eqb _ _ d)
+            ∙ rw (other 1 (omega arith), other 2 (omega arith), other 3 (omega arith), other 4 (omega arith), other 5 (omega arith), other 6 (omega arith)) (sym (and_no _ _ refl))
+      ])

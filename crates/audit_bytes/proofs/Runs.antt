@@ -2,11 +2,12 @@
 use mathlib.Core.Bool.{Bool}
 use mathlib.Core.List.{List, [], ◌∷◌}
 use mathlib.Core.Path.{◌≡◌, ap, ap₂, refl, sym, ◌∙◌}
-use Prim.Native.Nat.{◌*◌, ◌+◌, suc, zero, ℕ, ◌≤◌}
+use Prim.Native.Nat.{◌*◌, ◌+◌, suc, ℕ, ◌≤◌}
 use native.Mathlib.Omega.{arith}
 use lib.Dec.{eqb}
 use lib.ListN.{drop, get_or, length, length-replicate, replicate}
 use lib.Seq.{drop-drop}
+use Rattle.std.proofs.lemmas.List.{get_or-replicate}
 use Rattle.audit_entries.proofs.Bounded.{all_agree}
 use Rattle.state.proofs.Look.{listed_at, listed_length}
 use Rattle.state.proofs.Zeros.{each_zeros}
@@ -41,11 +42,6 @@ module _ {A : Type 0} (g : A → List ℕ) (w : ℕ) (u : (x : A) → length (g 
       ∙ all_agree n _ _ (λ i h. ap₂ (λ (x : A) (y : List ℕ). starts (g x) y) (listed_at n f d i h) (drop-drop (w * i) at l))
 
 -- ---- zeros
-get_or_zeros : (n k : ℕ) → ◌≡◌ {A = ℕ} (get_or (replicate n 0) k 0) 0
-get_or_zeros zero k = refl
-get_or_zeros (suc n) zero = refl
-get_or_zeros (suc n) (suc k) = get_or_zeros n k
-
 module _ (l : List ℕ) (u : Bytes l) where
   pub zeros_stand : (at n : ℕ) → at + 4 * n ≤ length l → starts (replicate (4 * n) 0) (drop at l) ≡ zero_words l at n
   unfolding zero_words
@@ -54,7 +50,7 @@ module _ (l : List ℕ) (u : Bytes l) where
       ∙ starts_even le32 4 (λ x. refl) 0 (replicate n 0) (drop at l)
       ∙ ap (λ (m : ℕ). all_below m (λ i. starts (le32 (get_or (replicate n 0) i 0)) (drop (4 * i) (drop at l)))) (length-replicate {A = ℕ} n 0)
       ∙ all_agree n _ _ (λ i k.
-      ap₂ (λ (x : ℕ) (y : List ℕ). starts (le32 x) y) (get_or_zeros n i) (drop-drop (4 * i) at l)
+      ap₂ (λ (x : ℕ) (y : List ℕ). starts (le32 x) y) (get_or-replicate n i 0 0 k) (drop-drop (4 * i) at l)
       ∙ word_stands l u (at + 4 * i) 0 (omega arith) (omega arith))
 
 -- the first word apart

@@ -3,8 +3,8 @@ pub use Rattle.words.specs.declared.numbers.Slot.{Slot}
 pub use Rattle.words.specs.declared.capabilities.Kind.{Kind}
 pub use Rattle.words.specs.declared.capabilities.Kind.TheVariants.{Table, Directory, Memory, Process, Endpoint, Function}
 pub use Rattle.words.specs.declared.capabilities.Frost.{Frost}
-pub use Rattle.words.specs.declared.capabilities.Origin.{Origin}
-pub use Rattle.words.specs.declared.capabilities.Place.{Place}
-pub use Rattle.words.specs.declared.capabilities.Place.TheVariants.{Blank}
+pub use Rattle.words.specs.Names.{Origin}
+pub use Rattle.words.specs.Names.{Place}
+pub use Rattle.std.specs.Prelude.{None}
 pub use Rattle.words.specs.declared.capabilities.Position.{Position}
 pub use Rattle.words.specs.declared.capabilities.Position.TheVariants.{Empty, Page, Child}

@@ -17,11 +17,5 @@ pub fn canonical(s: &[u8], n: usize) -> bool
     requires { (length s.now ≡ state_length) × (apart (read s.now) ≡ true) × Vacant s.now n }
     ensures { result ≡ same (bytes (read s.now)) s.now }
 {
-    if !notes_stand(s, n) {
-        return false;
-    }
-    if !zeros_in(s, SPARE_OFFSET, SPARE_WORDS) {
-        return false;
-    }
-    objects_stand(s, n)
+    notes_stand(s, n) && zeros_in(s, SPARE_OFFSET, SPARE_WORDS) && objects_stand(s, n)
 }

@@ -14,49 +14,29 @@ use words::layout::{
 };
 use words::sizes::{HEADER_SIZE, POSITION_SIZE, SLOT_COUNT_U32};
 
-// The tags, as the lowest byte of a position's first word has them, and where position 0 has its frame or child.
-const PAGE_U32: u32 = PAGE as u32;
-
-const CHILD_U32: u32 = CHILD as u32;
-
-const VALUES_AT: usize = HEADER_SIZE + POSITION_VALUE_AT;
-
-// A page has flags and any frame, a child flags and a slot, and what is empty is zero.
+// By the tag, the lowest byte of its first word: a page has flags and any frame, a child flags and a slot, and what is empty is zero.
 fn position_clean(first: u32, second: u32) -> bool
     ensures { result ≡ position_clean first second }
 {
-    match first % BYTE {
-        PAGE_U32 => first < HALF,
-        CHILD_U32 => {
-            if HALF <= first {
-                return false;
-            }
-            second < SLOT_COUNT_U32
-        }
-        _ => {
-            if first != 0 {
-                return false;
-            }
-            second == 0
-        }
+    match (first % BYTE) as u8 {
+        PAGE => first < HALF,
+        CHILD => first < HALF && second < SLOT_COUNT_U32,
+        _ => first == 0 && second == 0,
     }
+}
+
+fn position_stands(p: &[u8], at: usize) -> bool
+    requires { at + position_size ≤ length p.now }
+    ensures { result ≡ position_stands p.now at }
+{
+    position_clean(word_in(p, at), word_in(p, at + POSITION_VALUE_AT))
 }
 
 fn positions_stand(p: &[u8], n: usize) -> bool
     requires { header_size + position_size * n ≤ length p.now }
     ensures { result ≡ all_below n (λ i. position_stands p.now (header_size + position_size * i)) }
 {
-    let mut i: usize = 0;
-    while i < n {
-        if !position_clean(
-            word_in(p, HEADER_SIZE + POSITION_SIZE * i),
-            word_in(p, VALUES_AT + POSITION_SIZE * i),
-        ) {
-            return false;
-        }
-        i += 1;
-    }
-    true
+    (0..n).all(|i| position_stands(p, HEADER_SIZE + POSITION_SIZE * i))
 }
 
 // The top mark is 0 or 1, and five words of the header are not used.
@@ -65,15 +45,9 @@ pub(crate) fn directory_stands(p: &[u8], positions: u32) -> bool
     ensures { result ≡ starts (memory_bytes (directory_in p.now positions)) p.now }
 {
     let n = positions as usize;
-    if 1 < word_in(p, TOP_AT) {
-        return false;
-    }
-    if !zeros_in(p, HEADER_SPARE_AT, HEADER_SPARE_WORDS) {
-        return false;
-    }
-    if !positions_stand(p, n) {
-        return false;
-    }
     let own = HEADER_SIZE + POSITION_SIZE * n;
-    zeros_in(p, own, (p.len() - own) / WORD_SIZE)
+    word_in(p, TOP_AT) <= 1
+        && zeros_in(p, HEADER_SPARE_AT, HEADER_SPARE_WORDS)
+        && positions_stand(p, n)
+        && zeros_in(p, own, (p.len() - own) / WORD_SIZE)
 }

@@ -10,25 +10,24 @@ ghost use Rattle.words.specs.Tests.{all_below};
 use audit_entries::word_in;
 use words::fields::{BYTE, HALF};
 use words::layout::{DIRECTORY_TAG, ENDPOINT_TAG, LATER_TAG, NOTE_SIZE, NOTES, TABLE_TAG};
+use words::numbers::Slot;
 
-// The tags, as the lowest byte of a note has them.
-const LATER_TAG_U32: u32 = LATER_TAG as u32;
-
-const TABLE_TAG_U32: u32 = TABLE_TAG as u32;
-
-const DIRECTORY_TAG_U32: u32 = DIRECTORY_TAG as u32;
-
-const TAGS_END: u32 = ENDPOINT_TAG as u32 + 1;
-
+// By the tag, the lowest byte of a note: one of the layout's numbers (docs/LAYOUT.md) or any other byte.
+#[tactic(auto, unfolding(crate::specs::Clean::note_clean))]
 fn note_clean(note: u32) -> bool
     ensures { result ≡ note_clean note }
 {
-    match note % BYTE {
-        LATER_TAG_U32 => note < HALF,
-        TABLE_TAG_U32 => note < HALF,
-        DIRECTORY_TAG_U32 => note < HALF,
-        _ => note < TAGS_END,
+    match (note % BYTE) as u8 {
+        LATER_TAG | TABLE_TAG | DIRECTORY_TAG => note < HALF,
+        _ => note <= u32::from(ENDPOINT_TAG),
     }
+}
+
+fn note_stands(s: &[u8], k: Slot) -> bool
+    requires { length s.now ≡ state_length }
+    ensures { result ≡ note_stands s.now k }
+{
+    note_clean(word_in(s, NOTES + NOTE_SIZE * (k.0 as usize)))
 }
 
 // Behind the n slots that are used the notes are zeros.
@@ -36,12 +35,5 @@ pub(crate) fn notes_stand(s: &[u8], n: usize) -> bool
     requires { (length s.now ≡ state_length) × Vacant s.now n }
     ensures { result ≡ all_below slot_count (λ k. note_stands s.now (slot k)) }
 {
-    let mut k: usize = 0;
-    while k < n {
-        if !note_clean(word_in(s, NOTES + NOTE_SIZE * k)) {
-            return false;
-        }
-        k += 1;
-    }
-    true
+    (0..n).all(|k| note_stands(s, Slot(k as u8)))
 }

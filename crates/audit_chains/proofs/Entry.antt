@@ -1,7 +1,7 @@
 -- What the words of an entry say of its chain; and that in a laid-out state the place of number x stands at byte 32·x, in slot x / 2.
 use mathlib.Core.Bool.{Bool, false, false≢true, true}
 use mathlib.Core.List.{List}
-use mathlib.Core.Logic.{◌⊎◌, ⊎_elim}
+use mathlib.Core.Logic.{⊎_elim}
 use mathlib.Core.Path.{ap, refl, sym, ◌∙◌, ◌≡◌}
 use Prim.Native.Nat.{◌%◌, ◌*◌, ◌+◌, ◌-◌, ◌/◌, ◌<◌, suc, zero, ℕ, ◌≤◌}
 use native.Mathlib.Omega.{arith}
@@ -22,7 +22,7 @@ use Rattle.words.proofs.Tests.{all_at}
 use Rattle.words.specs.Fields.{slot}
 use Rattle.words.specs.Sizes.{entry_size, place_count, slot_count, slot_size, state_length}
 use Rattle.audit_chains.specs.Chains.{Ready, codes, holds, under}
-use Rattle.audit_chains.specs.Names.{Blank, Holds, Origin, Place, Root, Slot, Under}
+use Rattle.audit_chains.specs.Names.{None, Some, Origin, Place, Slot}
 
 -- ---- the parent word
 origin_code_lem : (w : ℕ) → origin_code (origin_from w) ≡ w + 1
@@ -46,26 +46,28 @@ module _ (b : List ℕ) (at : ℕ) where
         (λ _. refl) (λ _. refl) (λ _. refl) (λ w. absurd (⊎_elim d (λ l. omega arith) w))
 
     -- a kind and a parent word: a child
-    pub entry_child : (kind w : ℕ) → kind ≡ word_at b at → w ≡ word_at b (at + 28) → (kind ≡ 0 → ⊥) → kind ≤ 6 → (w ≡ 0 → ⊥)
-        → right (λ c. P c.origin) (place_of b at) ≡ P (Under (w - 1))
+    pub entry_child : (kind p : ℕ) → kind ≡ word_at b at → word_at b (at + 28) ≡ p + 1 → (kind ≡ 0 → ⊥) → kind ≤ 6
+        → right (λ c. P c.origin) (place_of b at) ≡ P (Some p)
     unfolding origin_from
-    entry_child kind w k e d most n = rw (origin_of (λ z. d (k ∙ z)) (omega arith), ← e, ne_eqb _ _ n)
+    entry_child kind p k e d most =
+        let back : p + 1 - 1 ≡ p = omega arith in
+        rw (origin_of (λ z. d (k ∙ z)) (omega arith), e, ne_eqb (p + 1) 0 (λ z. omega arith), back)
 
-    pub entry_root : P Root ≡ true → word_at b (at + 28) ≡ 0 → right (λ c. P c.origin) (place_of b at) ≡ true
+    pub entry_root : P None ≡ true → word_at b (at + 28) ≡ 0 → right (λ c. P c.origin) (place_of b at) ≡ true
     unfolding place_of origin_from
     entry_root r z =
         rw (eq-eqb _ _ z)
         (place_cases (λ p. right (λ c. P c.origin) p ≡ true) _ _ _ _ _ _ _ (λ _. r) (λ _. r) (λ _. r) (λ _. r) (λ _. r) (λ _. r) (λ _. refl))
 
-    pub entry_blank : (word_at b at ≡ 0) ⊎ (6 < word_at b at) → right (λ c. P c.origin) (place_of b at) ≡ true
+    pub entry_blank : (1 ≤ word_at b at → word_at b at ≤ 6 → ⊥) → right (λ c. P c.origin) (place_of b at) ≡ true
     unfolding place_of
-    entry_blank w =
+    entry_blank d =
         place_cases (λ p. right (λ c. P c.origin) p ≡ true) _ _ _ _ _ _ _ (λ e. none (omega arith) (omega arith)) (λ e. none (omega arith) (omega arith))
         (λ e. none (omega arith) (omega arith)) (λ e. none (omega arith) (omega arith)) (λ e. none (omega arith) (omega arith))
         (λ e. none (omega arith) (omega arith)) (λ _. refl)
       where
         none : {A : Type 0} → 1 ≤ word_at b at → word_at b at ≤ 6 → A
-        none low high = absurd (⊎_elim (λ z. omega arith) (λ g. omega arith) w)
+        none low high = absurd (d low high)
 
 -- ---- the place of a number
 module _ (b : List ℕ) (w : Laid (read b)) (x : ℕ) (there : holds (place_numbered (read b) x) ≡ true) where
@@ -99,7 +101,7 @@ module _ (b : List ℕ) (w : Laid (read b)) (x : ℕ) (there : holds (place_numb
   abbrev slot_part : List ℕ
   slot_part = take slot_size (drop (slot_size * (x / 2)) b)
 
-  pub numbered_room : length b ≡ state_length → entry_size * (x % 2) + 28 + 4 ≤ length slot_part
+  pub numbered_room : length b ≡ state_length → entry_size * (x % 2) + entry_size ≤ length slot_part
   numbered_room long = simp (length-take, length-drop) (omega (arith, numbered_small))
 
   pub numbered_code : codes (read b) x ≡ word_at slot_part (entry_size * (x % 2) + 28) + 1
@@ -111,12 +113,12 @@ module _ (b : List ℕ) (w : Laid (read b)) (x : ℕ) (there : holds (place_numb
 
 -- ---- a standing place's parent stands
 parent_stands_lem : (st : State) (q : ℕ) (p : Place) → right (λ c. under st c.origin) p ≡ true → code_of p ≡ q + 2 → holds (place_numbered st q) ≡ true
-parent_stands_lem st q Blank h e = absurd (omega arith)
-parent_stands_lem st q (Holds c) h e = go c.origin h e
+parent_stands_lem st q None h e = absurd (omega arith)
+parent_stands_lem st q (Some c) h e = go c.origin h e
   where
     go : (o : Origin) → under st o ≡ true → origin_code o ≡ q + 2 → holds (place_numbered st q) ≡ true
-    go Root h e = absurd (omega arith)
-    go (Under r) h e = let s : r ≡ q = omega arith in rw s at h
+    go None h e = absurd (omega arith)
+    go (Some r) h e = let s : r ≡ q = omega arith in rw s at h
 
 pub numbered_parent : (b : List ℕ) → Ready b → (x q : ℕ) → holds (place_numbered (read b) x) ≡ true → codes (read b) x ≡ q + 2
     → holds (place_numbered (read b) q) ≡ true

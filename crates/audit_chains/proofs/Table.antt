@@ -7,8 +7,8 @@ use Prim.Native.Nat.{◌*◌, ◌<◌, ℕ}
 use lib.ListN.{get_or, length}
 use Rattle.audit_entries.proofs.Bounded.{all_agree}
 use Rattle.audit_entries.proofs.Entries.{part_place, slots_of}
-use Rattle.audit_entries.proofs.Listed.{heads_objects}
-use Rattle.audit_entries.specs.Heads.{Heads}
+use Rattle.audit_objects.proofs.Listed.{each_head}
+use Rattle.audit_objects.specs.Heads.{AreHeads}
 use Rattle.rules.specs.WellFormed.{every_place, right}
 use Rattle.state.specs.Read.{place_of, read}
 use Rattle.state.specs.State.{Object, State, entries_in, place_at, places_of}
@@ -17,7 +17,7 @@ use Rattle.words.specs.Fields.{slot}
 use Rattle.words.specs.Sizes.{entry_size, slot_count}
 use Rattle.words.specs.Tests.{all_below}
 use Rattle.audit_chains.specs.Chains.{Ready, chained, parent_stands, place_chained}
-use Rattle.audit_chains.specs.Names.{Blank, Place, Slot}
+use Rattle.audit_chains.specs.Names.{None, Place, Slot}
 
 -- the chains of all entries of the table in slot t
 abbrev pub table_chained : State → Slot → Bool
@@ -33,9 +33,9 @@ module _ (b : List ℕ) (r : Ready b) (t : Slot) (ht : t.0 < slot_count) where
   part_chained = all_agree (entries_in (read b) t) _ _ (λ e h. ap (λ (p : Place). place_chained (read b) p) (part_place b r.size t ht e h))
 
 -- a slot that is not listed has no entry
-pub listed_chained : (b h : List ℕ) (n : ℕ) → Heads b h n slot_count
-    → all_below n (λ i. table_chained (read b) (slot (get_or h i 0))) ≡ every_place (read b) (right (λ c. chained (read b) c.origin))
+pub listed_chained : (b h : List ℕ) → AreHeads b h
+    → all_below (length h) (λ i. table_chained (read b) (slot (get_or h i 0))) ≡ every_place (read b) (right (λ c. chained (read b) c.origin))
 unfolding every_place
-listed_chained b h n w =
-    heads_objects b h n w (λ (k : Slot) (o : Object). all_below (length (places_of o)) (λ e. place_chained (read b) (get_or (places_of o) e Blank)))
+listed_chained b h w =
+    each_head b h w (λ (k : Slot) (o : Object). all_below (length (places_of o)) (λ e. place_chained (read b) (get_or (places_of o) e None)))
     (λ k. all_zero _) (λ k f. all_zero _)

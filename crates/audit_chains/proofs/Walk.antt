@@ -19,7 +19,7 @@ use Rattle.state.specs.Layout.{Laid}
 use Rattle.state.specs.State.{State, place_numbered}
 use Rattle.words.specs.Sizes.{place_count}
 use Rattle.audit_chains.specs.Chains.{Shown, codes, holds}
-use Rattle.audit_chains.specs.Names.{Blank, Holds, Place}
+use Rattle.audit_chains.specs.Names.{None, Some, Place}
 
 -- inside the walk from e, at x with `left` steps to go: x lies on e's chain, and the test of e has become the test of x
 pub record Going (st : State) (e x left : ℕ) : Type 0 where
@@ -57,8 +57,8 @@ shown_none st = record { long = length-replicate {A = ℕ} place_count 0; shown 
 
 -- ---- what reaches a root is no blank
 used_holds : (p : Place) → (code_of p ≡ 0 → ⊥) → holds p ≡ true
-used_holds Blank h = absurd (h refl)
-used_holds (Holds c) h = refl
+used_holds None h = absurd (h refl)
+used_holds (Some c) h = refl
 
 pub reaches_holds : (st : State) (x : ℕ) → Reaches (codes st) x → holds (place_numbered st x) ≡ true
 unfolding codes

@@ -5,22 +5,22 @@ use Rattle.state.specs.Layout.{Laid}
 use Rattle.state.specs.Read.{read}
 use Rattle.state.specs.State.{State, place_numbered}
 use Rattle.words.specs.Sizes.{place_count, state_length}
-use Rattle.audit_chains.specs.Names.{Blank, Holds, Origin, Place, Root, Under}
+use Rattle.audit_chains.specs.Names.{None, Some, Origin, Place}
 unfoldable pub use Rattle.rules.specs.Chains.{codes}
 
 unfoldable pub chained : State → Origin → Bool
-chained st Root = true
-chained st (Under p) = reaches (place_numbered st) place_count p
+chained st None = true
+chained st (Some p) = reaches (place_numbered st) place_count p
 
 -- a right stands in a place
 abbrev pub holds : Place → Bool
-holds Blank = false
-holds (Holds c) = true
+holds None = false
+holds (Some c) = true
 
 -- the parent that an origin names stands
 abbrev pub under : State → Origin → Bool
-under st Root = true
-under st (Under p) = holds (place_numbered st p)
+under st None = true
+under st (Some p) = holds (place_numbered st p)
 
 -- the two of a place
 abbrev pub place_chained : State → Place → Bool

@@ -1,6 +1,5 @@
 -- The declared types of `words` that the specs and proofs of this crate name, under one roof.
 pub use Rattle.words.specs.declared.numbers.Slot.{Slot}
-pub use Rattle.words.specs.declared.capabilities.Origin.{Origin}
-pub use Rattle.words.specs.declared.capabilities.Origin.TheVariants.{Root, Under}
-pub use Rattle.words.specs.declared.capabilities.Place.{Place}
-pub use Rattle.words.specs.declared.capabilities.Place.TheVariants.{Blank, Holds}
+pub use Rattle.words.specs.Names.{Origin}
+pub use Rattle.std.specs.Prelude.{None, Some}
+pub use Rattle.words.specs.Names.{Place}

@@ -16,7 +16,7 @@ use Rattle.state.specs.Read.{held, place_from, place_of, read}
 use Rattle.state.specs.State.{State, entries_in, place_at}
 use Rattle.words.specs.Fields.{address}
 use Rattle.words.specs.Sizes.{entry_size, place_count, slot_count, slot_size, slots_for, state_length}
-use Rattle.audit_entries.specs.Names.{Blank, Directory, Endpoint, Frost, Function, Memory, Origin, Place, Process, Slot, Table}
+use Rattle.audit_entries.specs.Names.{None, Directory, Endpoint, Frost, Function, Memory, Origin, Place, Process, Slot, Table}
 
 -- ---- the part of a table in a laid-out state
 -- the slots of the table in slot t, which has n entries
@@ -57,7 +57,7 @@ module _ (P : Place → Type 0) (t : ℕ) (o : Slot) (l h f : ℕ) (x : Frost) (
       → (t ≡ 4 → P (held (Process o) f x r))
       → (t ≡ 5 → P (held (Endpoint o) f x r))
       → (t ≡ 6 → P (held (Function l h) f x r))
-      → ((t ≡ 0) ⊎ (6 < t) → P Blank)
+      → ((t ≡ 0) ⊎ (6 < t) → P None)
       → P (place_from t o l h f x r)
   unfolding place_from
   place_cases f1 f2 f3 f4 f5 f6 f0 = go (eqb t 1) (eqb t 2) (eqb t 3) (eqb t 4) (eqb t 5) (eqb t 6) refl refl refl refl refl refl

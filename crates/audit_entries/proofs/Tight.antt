@@ -1,6 +1,6 @@
 -- "prove that two results satisfying it are equal": each public function's contract determines its answer, and all that was lent.
 use mathlib.Core.Path.{refl, ap}
-use Rattle.words.specs.Determined.{Determined, DeterminedAs}
+use Rattle.words.specs.Determined.{Determined}
 use Rattle.audit_entries.proofs.Order.{listed_same}
 use Rattle.audit_entries.proofs.Vacant.{used_same}
 use Rattle.audit_entries.proofs as audit_entries
@@ -11,9 +11,6 @@ list_heads κs a x y v w p q = let e = listed_same _ _ _ _ x y p q in (e.0, ap (
 
 pub word_in : Determined contracts.word_in.ended audit_entries.word_in.Reads.Learnt
 word_in κs a x y v w p q = (cc, refl)
-
-pub table_slots : DeterminedAs contracts.table_slots.ended (λ κs x. x.now) audit_entries.table_slots.Reads.Learnt
-table_slots κs a x y v w p q = (cc, refl)
 
 pub tag_in : Determined contracts.notes.tag_in.ended audit_entries.notes.tag_in.Reads.Learnt
 tag_in κs a x y v w p q = (cc, refl)

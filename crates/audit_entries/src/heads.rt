@@ -11,19 +11,17 @@ use words::numbers::Slot;
 use words::sizes::SLOT_COUNT;
 
 // Puts them at the start of the list, in order, and answers how many there are; what is behind them stays. There is none behind the
-// n slots that are used.
+// n slots that are used. Fixed memory without a heap, so the caller lends the whole array: `Listed` says of all of it what it has then.
 pub fn list_heads(s: &[u8], n: usize, heads: &mut [u8; SLOT_COUNT]) -> usize
     requires { Vacant s.now n × (length heads.old ≡ slot_count) }
     ensures { Listed s.now heads.old heads.new result }
 {
     let mut m: usize = 0;
-    let mut k: usize = 0;
-    while k < n {
+    for k in 0..n {
         if LATER_TAG < tag_byte(s, Slot(k as u8)) {
             heads[m] = k as u8;
             m += 1;
         }
-        k += 1;
     }
     m
 }

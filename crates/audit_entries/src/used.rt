@@ -7,20 +7,15 @@ use crate::word_in;
 use words::layout::{NOTE_SIZE, NOTES};
 use words::sizes::SLOT_COUNT;
 
-// The last of n notes stands at NOTE_BEFORE + NOTE_SIZE * n.
-const NOTE_BEFORE: usize = NOTES - NOTE_SIZE;
-
 // The least number of slots behind which every note is zeros. The search goes from the last slot down.
 pub fn used(s: &[u8]) -> usize
     requires { length s.now ≡ state_length }
     ensures { Used s.now result }
 {
-    let mut n: usize = SLOT_COUNT;
-    while 0 < n {
-        if word_in(s, NOTE_BEFORE + NOTE_SIZE * n) != 0 {
-            return n;
+    for k in (0..SLOT_COUNT).rev() {
+        if word_in(s, NOTES + NOTE_SIZE * k) != 0 {
+            return k + 1;
         }
-        n -= 1;
     }
-    n
+    0
 }

@@ -17,35 +17,31 @@ fn goes_on(s: &[u8], first: Slot, k: Slot) -> bool
     requires { length s.now ≡ state_length }
     ensures { result ≡ goes_on first (obj_at (read s.now) k) }
 {
-    if tag_in(s, k) != LATER_TAG {
-        return false;
-    }
-    argument_in(s, k) == first.0
+    tag_in(s, k) == LATER_TAG && argument_in(s, k) == first.0
 }
 
 // `owed` slots still belong to the object that stands at `first`. Behind the n slots that are used nothing can be owed.
+// The slice and the count stay two parameters: the check's later parts get the same slice with other facts and no count.
 pub fn laid_out(s: &[u8], n: usize) -> bool
     requires { (length s.now ≡ state_length) × Vacant s.now n }
     ensures { result ≡ apart (read s.now) }
 {
     let mut owed: u16 = 0;
-    let mut first: u8 = 0;
-    let mut k: usize = 0;
-    while k < n {
+    let mut first = Slot(0);
+    for k in 0..n {
+        let k = Slot(k as u8);
         if owed == 0 {
-            let size = size_at(s, Slot(k as u8));
-            if size == 0 {
+            let Some(rest) = size_at(s, k).checked_sub(1) else {
                 return false;
-            }
-            owed = size - 1;
-            first = k as u8;
+            };
+            owed = rest;
+            first = k;
         } else {
-            if !goes_on(s, Slot(first), Slot(k as u8)) {
+            if !goes_on(s, first, k) {
                 return false;
             }
             owed -= 1;
         }
-        k += 1;
     }
     owed == 0
 }

@@ -6,27 +6,26 @@ ghost use Rattle.words.specs.Sizes.{state_length};
 
 use audit_entries::notes::{argument_in, tag_in};
 use reading::directories::positions_in;
-use words::layout::{DIRECTORY_TAG, FREE_TAG, LATER_TAG, TABLE_TAG};
+use words::layout::{DIRECTORY_TAG, LATER_TAG, TABLE_TAG};
 use words::numbers::Slot;
 use words::sizes::{
-    ENTRY_SIZE_U16, HEADER_SIZE_U32, POSITION_SIZE_U32, SLOT_REST_U16, SLOT_REST_U32,
-    SLOT_SIZE_U16, SLOT_SIZE_U32,
+    ENTRY_SIZE_U16, HEADER_SIZE_U32, POSITION_SIZE_U32, SLOT_SIZE_U16, SLOT_SIZE_U32,
 };
 
-// The slots of what stands in a slot, as its note tells; none where an object goes on. Most slots are free.
+// The slots of what stands in a slot, as its note tells; none where an object goes on. Tags are the layout's numbers (docs/LAYOUT.md).
+// `committing` has a size of its own for a buffer of any length, where each read is tested; this is asked of every slot that is used.
+#[tactic(auto, using(state::proofs::Few::few_positions))]
 pub fn size_at(s: &[u8], k: Slot) -> u16
     requires { length s.now ≡ state_length }
     ensures { result ≡ size_of (obj_at (read s.now) k) }
 {
-    let tag = tag_in(s, k);
-    if tag == FREE_TAG {
-        return 1;
-    }
-    match tag {
+    match tag_in(s, k) {
         LATER_TAG => 0,
-        TABLE_TAG => (ENTRY_SIZE_U16 * (argument_in(s, k) as u16) + SLOT_REST_U16) / SLOT_SIZE_U16,
-        DIRECTORY_TAG => ((HEADER_SIZE_U32 + POSITION_SIZE_U32 * positions_in(s, k) + SLOT_REST_U32)
-            / SLOT_SIZE_U32) as u16,
+        TABLE_TAG => (ENTRY_SIZE_U16 * u16::from(argument_in(s, k))).div_ceil(SLOT_SIZE_U16),
+        DIRECTORY_TAG => {
+            let length = HEADER_SIZE_U32 + POSITION_SIZE_U32 * positions_in(s, k);
+            length.div_ceil(SLOT_SIZE_U32) as u16
+        }
         _ => 1,
     }
 }

@@ -1,3 +1,4 @@
 pub mod Checks
 pub mod Asked
+pub mod Listed
 pub mod Tight

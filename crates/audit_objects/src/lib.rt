@@ -4,4 +4,3 @@
 
 pub mod directories;
 pub mod objects;
-pub mod orders;

@@ -18,7 +18,7 @@ use Rattle.words.specs.Rights.{inside, kind_no, subset}
 use Rattle.words.specs.Tests.{◌&◌}
 use Rattle.audit_rights.specs.ButChain.{bare, right_but_chain}
 use Rattle.audit_rights.specs.ByWords.{inside_words, kind_from}
-use Rattle.audit_rights.specs.Names.{Blank, Capability, Directory, Endpoint, Frost, Function, Kind, Memory, Origin, Process, Slot, Table}
+use Rattle.audit_rights.specs.Names.{None, Capability, Directory, Endpoint, Frost, Function, Kind, Memory, Origin, Process, Slot, Table}
 use Rattle.audit_rights.proofs.Standing.{and_true, right_bare}
 
 -- what holds of each number of a kind
@@ -42,7 +42,7 @@ module _ (t : ℕ) (o : Slot) (l h : ℕ) where
   unfolding kind_from place_from
   place_held f x r = number_cases (λ n. place_from n o l h f x r ≡ held (kind_from n o l h) f x r) t refl refl refl refl refl refl
 
-  place_blank : (f : ℕ) (x : Frost) (r : Origin) → (1 ≤ t → t ≤ 6 → ⊥) → place_from t o l h f x r ≡ Blank
+  place_blank : (f : ℕ) (x : Frost) (r : Origin) → (1 ≤ t → t ≤ 6 → ⊥) → place_from t o l h f x r ≡ None
   unfolding place_from
   place_blank f x r d =
       rw (

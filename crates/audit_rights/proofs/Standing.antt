@@ -15,7 +15,7 @@ use Rattle.words.proofs.Tests.{and_no}
 use Rattle.words.specs.Rights.{all_flags}
 use Rattle.words.specs.Tests.{◌&◌}
 use Rattle.audit_rights.specs.ButChain.{bare, descends_but_chain, right_but_chain}
-use Rattle.audit_rights.specs.Names.{Blank, Directory, Endpoint, Frost, Holds, Kind, Origin, Place, Process, Root, Slot, Table, Thawed, Under}
+use Rattle.audit_rights.specs.Names.{None, Directory, Endpoint, Frost, Some, Kind, Origin, Place, Process, Slot, Table, Thawed}
 
 pub and_true : (a : Bool) → (a & true) ≡ a
 unfolding ◌&◌
@@ -58,15 +58,15 @@ module _ (st : State) where
       go (endpoint c b) = none
 
 -- ---- the stamp plays no part, and to the parent the origin plays none
-pub fits_same : (k : Kind) (f : ℕ) (x : Frost) (r : Origin) (p : Place) → parent_fits (record { kind = k; flags = f; frost = x; origin = r }) p ≡ parent_fits (bare k f Root) p
-fits_same k f x r Blank = refl
-fits_same k f x r (Holds c) = refl
+pub fits_same : (k : Kind) (f : ℕ) (x : Frost) (r : Origin) (p : Place) → parent_fits (record { kind = k; flags = f; frost = x; origin = r }) p ≡ parent_fits (bare k f None) p
+fits_same k f x r None = refl
+fits_same k f x r (Some c) = refl
 
 descends_same : (st : State) (k : Kind) (f : ℕ) (x : Frost) (r : Origin) (o : Origin)
     → descends_but_chain st (record { kind = k; flags = f; frost = x; origin = r }) o ≡ descends_but_chain st (bare k f r) o
 unfolding descends_but_chain
-descends_same st k f x r Root = refl
-descends_same st k f x r (Under p) = fits_same k f x r (place_numbered st p) ∙ sym (fits_same k f Thawed r (place_numbered st p))
+descends_same st k f x r None = refl
+descends_same st k f x r (Some p) = fits_same k f x r (place_numbered st p) ∙ sym (fits_same k f Thawed r (place_numbered st p))
 
 stamp_passes : (m s : ℕ) → s < 2 ^ 32 → stamp_ok (frost_from m s) ≡ true
 unfolding frost_from

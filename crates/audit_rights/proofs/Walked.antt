@@ -15,7 +15,7 @@ use Rattle.state.specs.State.{State, entries_in, first_of, obj_at, place_at, pla
 use Rattle.words.specs.Fields.{slot}
 use Rattle.words.specs.Sizes.{entry_size, memory_length, place_count, slot_count, state_length}
 use Rattle.words.specs.Tests.{all_below}
-use Rattle.audit_rights.specs.Names.{Blank, Place, Slot}
+use Rattle.audit_rights.specs.Names.{None, Place, Slot}
 
 -- the entries of a table as they stand in the part that its slots are
 pub entries_part : (p : Place → Bool) (b : List ℕ) → length b ≡ state_length → (t : Slot) → t.0 < slot_count
@@ -37,7 +37,7 @@ pub entry_room : (b : List ℕ) → length b ≡ state_length → (t : Slot) (n 
 entry_room b long t n e h in_it = simp (length-take, length-drop) (omega arith)
 
 -- ---- the place of a number: there are 512
-pub number_past : (b : List ℕ) (p : ℕ) → place_count ≤ p → place_numbered (read b) p ≡ Blank
+pub number_past : (b : List ℕ) (p : ℕ) → place_count ≤ p → place_numbered (read b) p ≡ None
 number_past b p h = rw (object_past b (slot (p / 2)) (omega arith)) (rw (object_past b (slot (p / 2)) (omega arith)) refl)
 
 pub number_place : (st : State) (p : ℕ) (t : Slot) (e : ℕ) → t ≡ first_of (p / 2) (obj_at st (slot (p / 2))) → e ≡ p - 2 * t.0

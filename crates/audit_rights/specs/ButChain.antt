@@ -4,11 +4,11 @@ use Rattle.rules.specs.WellFormed.{ends_ok, names, parent_fits, stamp_ok, whole}
 use Rattle.state.specs.State.{State, place_numbered}
 use Rattle.words.specs.Rights.{all_flags}
 use Rattle.words.specs.Tests.{◌&◌}
-use Rattle.audit_rights.specs.Names.{Capability, Kind, Origin, Root, Thawed, Under}
+use Rattle.audit_rights.specs.Names.{Capability, Kind, Origin, None, Thawed, Some}
 
 unfoldable pub descends_but_chain : State → Capability → Origin → Bool
-descends_but_chain st c Root = eqb c.flags (all_flags c.kind) & whole st c.kind
-descends_but_chain st c (Under p) = parent_fits c (place_numbered st p)
+descends_but_chain st c None = eqb c.flags (all_flags c.kind) & whole st c.kind
+descends_but_chain st c (Some p) = parent_fits c (place_numbered st p)
 
 unfoldable pub right_but_chain : State → Capability → Bool
 right_but_chain st c = names st c.kind & ends_ok st c.kind & leb c.flags (all_flags c.kind) & stamp_ok c.frost & descends_but_chain st c c.origin

@@ -52,19 +52,13 @@ pub(crate) fn kind_in(p: &[u8], at: usize, number: u32) -> Kind
 fn both_below(low: u32, high: u32, n: u32) -> bool
     ensures { result ≡ (ltb low n & ltb high n) }
 {
-    if n <= low {
-        return false;
-    }
-    high < n
+    low < n && high < n
 }
 
 fn both_are(low: u32, high: u64, first: u32, last: u64) -> bool
     ensures { result ≡ (eqb low first & eqb high last) }
 {
-    if low != first {
-        return false;
-    }
-    high == last
+    low == first && high == last
 }
 
 // Kernel addresses at a slot, of which the high one may be the end.
@@ -73,22 +67,12 @@ fn memory_ends(low: KernelAddress, high: KernelAddress) -> bool
 {
     let l = low.0;
     let h = high.0;
-    if l < KERNEL_START {
-        return false;
-    }
-    if KERNEL_END <= l {
-        return false;
-    }
-    if l % SLOT_SIZE_U32 != 0 {
-        return false;
-    }
-    if h < KERNEL_START {
-        return false;
-    }
-    if KERNEL_END < h {
-        return false;
-    }
-    h % SLOT_SIZE_U32 == 0
+    KERNEL_START <= l
+        && l < KERNEL_END
+        && l % SLOT_SIZE_U32 == 0
+        && KERNEL_START <= h
+        && h <= KERNEL_END
+        && h % SLOT_SIZE_U32 == 0
 }
 
 // What has positions is a directory, so its range needs no test of the tag.
@@ -109,7 +93,7 @@ pub(crate) fn is_whole(s: &[u8], kind: Kind) -> bool
     ensures { result ≡ whole (read s.now) kind }
 {
     match kind {
-        Kind::Table(_) => true,
+        Kind::Table(_) | Kind::Process(_) | Kind::Endpoint(_) => true,
         Kind::Directory { object, low, high } => both_are(
             low,
             high as u64 + 1,
@@ -117,8 +101,6 @@ pub(crate) fn is_whole(s: &[u8], kind: Kind) -> bool
             positions_in(s, object) as u64,
         ),
         Kind::Memory { low, high } => both_are(low.0, high.0 as u64, KERNEL_START, KERNEL_END_U64),
-        Kind::Process(_) => true,
-        Kind::Endpoint(_) => true,
         Kind::Function { low, high } => both_are(low, high as u64, 0, LAST_FUNCTION_U64),
     }
 }

@@ -1,7 +1,7 @@
 // Each right of each table, walked in the part of the lent state that the table's slots are.
 ghost use Rattle.std.specs.Prelude.{true, ◌≡◌, ◌+◌, ◌*◌, ◌≤◌, length};
-ghost use Rattle.audit_entries.specs.Heads.{Heads};
-ghost use Rattle.words.specs.Sizes.{entry_size, slot_count, state_length};
+ghost use Rattle.audit_objects.specs.Heads.{AreHeads};
+ghost use Rattle.words.specs.Sizes.{entry_size, state_length};
 ghost use Rattle.words.specs.Tests.{all_below};
 ghost use Rattle.state.specs.Read.{origin_from, place_of, read};
 ghost use Rattle.state.specs.State.{entries_in, place_at};
@@ -10,52 +10,41 @@ ghost use Rattle.audit_rights.specs.ButChain.{bare, descends_but_chain, right_bu
 
 use crate::kinds::{is_whole, kind_in, stands};
 use crate::parents::parent_ok;
-use audit_entries::{table_slots, word_in};
-use reading::tables::entries_in;
+use audit_entries::word_in;
+use reading::tables::{entries_in, table_slots};
 use words::capabilities::Kind;
 use words::kinds::all_flags;
 use words::layout::{BLANK, FLAGS_AT, FUNCTION_KIND, PARENT_AT};
 use words::numbers::Slot;
-use words::sizes::{ENTRY_SIZE, SLOT_COUNT};
+use words::sizes::ENTRY_SIZE;
 
 // A root has "all its flags and whole range"; the parent's word is 0 for a root, else the parent's place number and 1.
 fn descent_ok(s: &[u8], kind: Kind, flags: u32, parent: u32) -> bool
     requires { length s.now ≡ state_length }
     ensures { result ≡ descends_but_chain (read s.now) (bare kind flags (origin_from parent)) (origin_from parent) }
 {
-    if parent == 0 {
-        if flags != all_flags(kind) {
-            return false;
-        }
-        return is_whole(s, kind);
+    match parent {
+        0 => flags == all_flags(kind) && is_whole(s, kind),
+        _ => parent_ok(s, kind, flags, parent - 1),
     }
-    parent_ok(s, kind, flags, parent - 1)
 }
 
 fn right_ok(s: &[u8], kind: Kind, flags: u32, parent: u32) -> bool
     requires { length s.now ≡ state_length }
     ensures { result ≡ right_but_chain (read s.now) (bare kind flags (origin_from parent)) }
 {
-    if !stands(s, kind) {
-        return false;
-    }
-    if all_flags(kind) < flags {
-        return false;
-    }
-    descent_ok(s, kind, flags, parent)
+    stands(s, kind) && flags <= all_flags(kind) && descent_ok(s, kind, flags, parent)
 }
 
 // The entry that starts at a byte of a part. Of a blank one the first word is all that is read; the kind of a function is the last, and what
-// has a greater number is blank too.
+// has a greater number is blank too. Part and byte go together as `place_of` of state/specs/Read.antt takes them: a slice of the entry alone
+// would have to be told to be the same place.
 fn entry_ok(s: &[u8], p: &[u8], at: usize) -> bool
     requires { (length s.now ≡ state_length) × (at + entry_size ≤ length p.now) }
     ensures { result ≡ right (right_but_chain (read s.now)) (place_of p.now at) }
 {
     let number = word_in(p, at);
-    if number == BLANK {
-        return true;
-    }
-    if FUNCTION_KIND < number {
+    if number == BLANK || FUNCTION_KIND < number {
         return true;
     }
     let kind = kind_in(p, at, number);
@@ -71,14 +60,7 @@ fn entries_ok(s: &[u8], p: &[u8], n: usize) -> bool
     requires { (length s.now ≡ state_length) × (entry_size * n ≤ length p.now) }
     ensures { result ≡ all_below n (λ e. right (right_but_chain (read s.now)) (place_of p.now (entry_size * e))) }
 {
-    let mut e: usize = 0;
-    while e < n {
-        if !entry_ok(s, p, ENTRY_SIZE * e) {
-            return false;
-        }
-        e += 1;
-    }
-    true
+    (0..n).all(|e| entry_ok(s, p, ENTRY_SIZE * e))
 }
 
 fn table_ok(s: &[u8], t: Slot) -> bool
@@ -86,24 +68,13 @@ fn table_ok(s: &[u8], t: Slot) -> bool
     ensures { result ≡ all_below (entries_in (read s.now) t) (λ e. right (right_but_chain (read s.now)) (place_at (read s.now) t e)) }
 {
     let n = entries_in(s, t);
-    if n == 0 {
-        return true;
-    }
-    let part = table_slots(s, t, n);
-    entries_ok(s, part, n as usize)
+    n == 0 || entries_ok(s, table_slots(s, t, n), n as usize)
 }
 
-// Every table is among the n listed slots.
-pub fn rights_ok(s: &[u8], heads: &[u8; SLOT_COUNT], n: usize) -> bool
-    requires { (length s.now ≡ state_length) × (apart (read s.now) ≡ true) × Heads s.now heads.now n slot_count }
+// Every table is among the listed slots.
+pub fn rights_ok(s: &[u8], heads: &[u8]) -> bool
+    requires { (length s.now ≡ state_length) × (apart (read s.now) ≡ true) × AreHeads s.now heads.now }
     ensures { result ≡ every_place (read s.now) (right (right_but_chain (read s.now))) }
 {
-    let mut i: usize = 0;
-    while i < n {
-        if !table_ok(s, Slot(heads[i])) {
-            return false;
-        }
-        i += 1;
-    }
-    true
+    heads.iter().all(|&k| table_ok(s, Slot(k)))
 }

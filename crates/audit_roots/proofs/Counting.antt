@@ -10,11 +10,12 @@ use native.Mathlib.Omega.{arith}
 use lib.Dec.{eqb}
 use lib.ListN.{get_or, get_or-replicate, length, length-replicate, length-set, replicate, set}
 use lib.Seq.{get_or-set_other, get_or-set_same}
-use borrow.Author.Tests.{eqb-false, eqb-true, ne_eqb}
+use borrow.Author.Tests.{eqb-false, eqb-true}
+use Rattle.std.proofs.lemmas.List.{get_or_append_left}
 use Rattle.audit_entries.proofs.Bounded.{sum_agree}
 use Rattle.audit_entries.proofs.Entries.{entries_few}
 use Rattle.audit_entries.proofs.Listed.{no_head}
-use Rattle.audit_entries.specs.Heads.{Heads}
+use Rattle.audit_objects.specs.Heads.{AreHeads}
 use Rattle.rules.specs.WellFormed.{one}
 use Rattle.state.specs.Layout.{Laid}
 use Rattle.state.specs.Read.{read}
@@ -22,8 +23,8 @@ use Rattle.state.specs.State.{State, entries_in, place_at, places_of}
 use Rattle.words.specs.Fields.{slot}
 use Rattle.words.specs.Sizes.{slot_count}
 use Rattle.words.specs.Tests.{sum_below}
-use Rattle.audit_roots.specs.Names.{Blank, Place}
-use Rattle.audit_roots.specs.Roots.{Counts, UpTo, keys, more, root_key, roots_among, roots_below}
+use Rattle.audit_roots.specs.Names.{None, Place}
+use Rattle.audit_roots.specs.Roots.{Counts, UpTo, counted_under, keys, more, root_key, roots_among, roots_below}
 use Rattle.audit_roots.proofs.Sums.{sum_most}
 
 -- ---- one entry
@@ -38,8 +39,8 @@ count_one w k long h = record { long = length-set w k _ ∙ long; each_count = �
         rw e (get_or-set_other w k j (get_or w k 0 + 1) 0 other ∙ omega arith)
 
 -- what is no root adds nothing
-pub count_none : (w : List ℕ) (k : ℕ) → length w ≡ keys → keys ≤ k → Counts w (more w (λ j. one (eqb k j)))
-count_none w k long h = record { long = long; each_count = λ j l. let d : k ≡ j → ⊥ = λ q. omega arith in rw (ne_eqb k j d) (omega arith) }
+pub count_none : (w : List ℕ) → length w ≡ keys → Counts w (more w (λ j. one false))
+count_none w long = record { long = long; each_count = λ j l. omega arith }
 
 -- ---- counts that say the same, that go on, and that stay small
 pub counts_same : (w : List ℕ) (f g : ℕ → ℕ) → Counts w f → ((k : ℕ) → f k ≡ g k) → Counts w g
@@ -59,13 +60,13 @@ among_zero at k = refl
 pub none_yet : (w : List ℕ) (at : ℕ → Place) → length w ≡ keys → Counts w (more w (roots_among at 0))
 none_yet w at long = record { long = long; each_count = λ k l. rw (among_zero at k) (omega arith) }
 
-pub among_next : (at : ℕ → Place) (n k : ℕ) → roots_among at (n + 1) k ≡ roots_among at n k + one (eqb (root_key (at n)) k)
+pub among_next : (at : ℕ → Place) (n k : ℕ) → roots_among at (n + 1) k ≡ roots_among at n k + one (counted_under (root_key (at n)) k)
 unfolding roots_among sum_below
 among_next at n k = rw (add-one n)
 
 pub among_same : (at to : ℕ → Place) (n : ℕ) → ((e : ℕ) → e < n → at e ≡ to e) → (k : ℕ) → roots_among at n k ≡ roots_among to n k
 unfolding roots_among
-among_same at to n s k = sum_agree n _ _ (λ e l. ap (λ (p : Place). one (eqb (root_key p) k)) (s e l))
+among_same at to n s k = sum_agree n _ _ (λ e l. ap (λ (p : Place). one (counted_under (root_key p) k)) (s e l))
 
 one_most : (b : Bool) → one b ≤ 1
 one_most true = omega arith
@@ -73,7 +74,7 @@ one_most false = omega arith
 
 pub among_most : (at : ℕ → Place) (n k : ℕ) → roots_among at n k ≤ n
 unfolding roots_among
-among_most at n k = omega (arith, sum_most 1 n (λ e. one (eqb (root_key (at e)) k)) (λ e l. one_most (eqb (root_key (at e)) k)))
+among_most at n k = omega (arith, sum_most 1 n (λ e. one (counted_under (root_key (at e)) k)) (λ e l. one_most (counted_under (root_key (at e)) k)))
 
 -- ---- the tables of the listed slots
 -- the roots under k in the tables of the first n slots of the list h
@@ -99,8 +100,10 @@ listed_most st w h n k =
     sum_most 512 n _ (λ i l. le_trans (among_most (place_at st (slot (get_or h i 0))) (entries_in st (slot (get_or h i 0))) k) (entries_few st w (slot (get_or h i 0))))
 
 -- they are the roots of all slots
-pub listed_all : (b h : List ℕ) (n : ℕ) → Heads b h n slot_count → (k : ℕ) → roots_listed (read b) h n k ≡ roots_below (read b) slot_count k
+pub listed_all : (b h : List ℕ) → AreHeads b h → (k : ℕ) → roots_listed (read b) h (length h) k ≡ roots_below (read b) slot_count k
 unfolding roots_listed roots_below
-listed_all b h n w k =
-    w.sum (λ s. roots_among (place_at (read b) (slot s)) (entries_in (read b) (slot s)) k)
-    (λ j l t. no_head b j l t (λ o. roots_among (λ e. get_or (places_of o) e Blank) (length (places_of o)) k ≡ 0) (among_zero _ k) (λ f. among_zero _ k))
+listed_all b h w k =
+    sum_agree (length h) _ _
+    (λ i l. ap (λ (s : ℕ). roots_among (place_at (read b) (slot s)) (entries_in (read b) (slot s)) k) (sym (get_or_append_left h w.rest 0 i l)))
+    ∙ w.heads.sum (λ s. roots_among (place_at (read b) (slot s)) (entries_in (read b) (slot s)) k)
+    (λ j l t. no_head b j l t (λ o. roots_among (λ e. get_or (places_of o) e None) (length (places_of o)) k ≡ 0) (among_zero _ k) (λ f. among_zero _ k))

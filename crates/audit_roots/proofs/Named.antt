@@ -19,8 +19,8 @@ use Rattle.words.specs.Fields.{slot}
 use Rattle.words.specs.Rights.{is_root, kind_no, object_of}
 use Rattle.words.specs.Sizes.{slot_count}
 use Rattle.words.specs.Tests.{◌&◌}
-use Rattle.audit_roots.specs.Names.{Blank, Directory, Endpoint, Function, Holds, Kind, Memory, Origin, Place, Process, Root, Slot, Table, Under}
-use Rattle.audit_roots.specs.Roots.{key_of, key_under, keys, named, root_key, roots_among, roots_below}
+use Rattle.audit_roots.specs.Names.{None, Directory, Endpoint, Function, Some, Kind, Memory, Origin, Place, Process, Slot, Table}
+use Rattle.audit_roots.specs.Roots.{counted_under, key_of, key_under, named, root_key, roots_among, roots_below}
 
 -- the second of two tests, where the first follows from it
 second : (a z : Bool) → (z ≡ true → a ≡ true) → z ≡ (a & z)
@@ -42,15 +42,15 @@ module _ (st : State) (given : named st ≡ true) where
   unfolding named every_place
   place_named s hs = all_at _ _ (all_at slot_count _ given s hs)
 
-  module _ (key n : ℕ) (o : Slot) (small : key < keys) (tells : Tells st key n o) where
-    root_is : (q : Kind) (r : Origin) → names st q ≡ true → eqb (key_under q r) key ≡ (is_root r & eqb (kind_no q) n & eqb (object_of q).0 o.0)
+  module _ (key n : ℕ) (o : Slot) (tells : Tells st key n o) where
+    root_is : (q : Kind) (r : Origin) → names st q ≡ true → counted_under (key_under q r) key ≡ (is_root r & eqb (kind_no q) n & eqb (object_of q).0 o.0)
     unfolding ◌&◌
-    root_is q Root h = tells q h
-    root_is q (Under p) h = ne_eqb keys key (λ e. omega arith)
+    root_is q None h = tells q h
+    root_is q (Some p) h = refl
 
-    place_is : (p : Place) → right (λ c. names st c.kind) p ≡ true → eqb (root_key p) key ≡ is_root_of n o p
-    place_is Blank h = ne_eqb keys key (λ e. omega arith)
-    place_is (Holds c) h = root_is c.kind c.origin h
+    place_is : (p : Place) → right (λ c. names st c.kind) p ≡ true → counted_under (root_key p) key ≡ is_root_of n o p
+    place_is None h = refl
+    place_is (Some c) h = root_is c.kind c.origin h
 
     pub roots_are : roots_below st slot_count key ≡ roots_of st n o
     unfolding roots_below roots_among roots_of
@@ -73,7 +73,7 @@ module _ (st : State) (o : Slot) (n : ℕ) (inside : o.0 < slot_count) (stands :
   object_tells (Function l u) h = neither _ _ _ (ne_eqb 257 o.0 (λ e. omega arith)) (ne_eqb 6 n (λ e. n6 (sym e)))
 
   pub object_roots : named st ≡ true → roots_below st slot_count o.0 ≡ roots_of st n o
-  object_roots given = roots_are st given o.0 n o (omega arith) object_tells
+  object_roots given = roots_are st given o.0 n o object_tells
 
 -- ---- and 256 and 257 are those of memory and function
 no_number : (o : Object) → tag_of o ≡ 0 → object_no o ≡ 0
@@ -110,10 +110,10 @@ module _ (st : State) (w : Laid st) (given : named st ≡ true) where
   function_tells (Function l u) h = refl
 
   pub memory_roots : roots_below st slot_count 256 ≡ roots_of st 3 (slot 0)
-  memory_roots = roots_are st given 256 3 (slot 0) (omega arith) memory_tells
+  memory_roots = roots_are st given 256 3 (slot 0) memory_tells
 
   pub function_roots : roots_below st slot_count 257 ≡ roots_of st 6 (slot 0)
-  function_roots = roots_are st given 257 6 (slot 0) (omega arith) function_tells
+  function_roots = roots_are st given 257 6 (slot 0) function_tells
 
 -- ---- the test of a slot
 pub none_owed : (st : State) (k : Slot) (o : Object) → tag_of o < 2 → one_root st k o ≡ true

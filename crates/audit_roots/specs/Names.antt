@@ -2,7 +2,6 @@
 pub use Rattle.words.specs.declared.numbers.Slot.{Slot}
 pub use Rattle.words.specs.declared.capabilities.Kind.{Kind}
 pub use Rattle.words.specs.declared.capabilities.Kind.TheVariants.{Table, Directory, Memory, Process, Endpoint, Function}
-pub use Rattle.words.specs.declared.capabilities.Origin.{Origin}
-pub use Rattle.words.specs.declared.capabilities.Origin.TheVariants.{Root, Under}
-pub use Rattle.words.specs.declared.capabilities.Place.{Place}
-pub use Rattle.words.specs.declared.capabilities.Place.TheVariants.{Blank, Holds}
+pub use Rattle.words.specs.Names.{Origin}
+pub use Rattle.std.specs.Prelude.{None, Some}
+pub use Rattle.words.specs.Names.{Place}

@@ -1,5 +1,5 @@
 -- "each object, and the kinds memory and function, has exactly one root": the number under which a root is counted, and the counts.
-use Rattle.std.specs.Prelude.{Bool, true, List, ◌≡◌, ◌*◌, ◌+◌, ◌<◌, ℕ, ◌≤◌, eqb, get_or, length}
+use Rattle.std.specs.Prelude.{Bool, false, true, List, Option, None, Some, ◌≡◌, ◌*◌, ◌+◌, ◌<◌, ℕ, ◌≤◌, eqb, get_or, length}
 use Rattle.rules.specs.WellFormed.{every_place, names, one, right}
 use Rattle.state.specs.Layout.{Laid}
 use Rattle.state.specs.Read.{read}
@@ -7,7 +7,7 @@ use Rattle.state.specs.State.{State, entries_in, place_at}
 use Rattle.words.specs.Fields.{slot}
 use Rattle.words.specs.Sizes.{place_count, slot_count, state_length}
 use Rattle.words.specs.Tests.{sum_below}
-use Rattle.audit_roots.specs.Names.{Blank, Directory, Endpoint, Function, Holds, Kind, Memory, Origin, Place, Process, Root, Table, Under}
+use Rattle.audit_roots.specs.Names.{None, Directory, Endpoint, Function, Some, Kind, Memory, Origin, Place, Process, Table}
 
 -- the first slot of the object that a kind names; memory and function name none, and follow the 256 slots
 abbrev pub key_of : Kind → ℕ
@@ -21,18 +21,23 @@ key_of (Function l h) = 257
 abbrev pub keys : ℕ
 keys = 258
 
--- under which number an entry is counted; past the last for one that is no root
-abbrev pub key_under : Kind → Origin → ℕ
-key_under k Root = key_of k
-key_under k (Under p) = keys
+-- under which number an entry is counted, if it is a root
+abbrev pub key_under : Kind → Origin → Option ℕ
+key_under k None = Some (key_of k)
+key_under k (Some p) = None
 
-abbrev pub root_key : Place → ℕ
-root_key Blank = keys
-root_key (Holds c) = key_under c.kind c.origin
+abbrev pub root_key : Place → Option ℕ
+root_key None = None
+root_key (Some c) = key_under c.kind c.origin
+
+-- whether that number is k
+abbrev pub counted_under : Option ℕ → ℕ → Bool
+counted_under None k = false
+counted_under (Some n) k = eqb n k
 
 -- the roots under k among the first n places, and in the tables of the first n slots
 unfoldable pub roots_among : (ℕ → Place) → ℕ → ℕ → ℕ
-roots_among at n k = sum_below n (λ e. one (eqb (root_key (at e)) k))
+roots_among at n k = sum_below n (λ e. one (counted_under (root_key (at e)) k))
 
 unfoldable pub roots_below : State → ℕ → ℕ → ℕ
 roots_below st n k = sum_below n (λ s. roots_among (place_at st (slot s)) (entries_in st (slot s)) k)

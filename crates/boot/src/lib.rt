@@ -6,19 +6,18 @@ ghost use Rattle.words.specs.Sizes.{state_length};
 ghost use Rattle.words.specs.Rights.{root_right};
 ghost use Rattle.state.specs.Bytes.{bytes};
 ghost use Rattle.rules.specs.Boot;
-ghost use Rattle.boot.specs.Names.{Holds};
+ghost use Rattle.boot.specs.Names.{Some};
 ghost use Rattle.boot.specs.Stages.{boot_page, boot_positions, with_objects, with_pages, with_rights};
 
-use words::capabilities::{Capability, Frost, Kind, Origin, Place, Position};
+use words::capabilities::{Kind, Position};
 use words::flag_bits::PAGE_FLAGS;
-use words::kinds::all_flags;
-use words::layout::{DIRECTORY_TAG, ENDPOINT_TAG, PROCESS_TAG, TABLE_TAG, WORD_SIZE};
+use words::kinds::root_right;
+use words::layout::{DIRECTORY_TAG, ENDPOINT_TAG, PROCESS_TAG, TABLE_TAG};
 use words::numbers::{KernelAddress, Slot};
 use words::sizes::{
     ENTRY_SIZE_U32, HEADER_SIZE_U32, KERNEL_END, KERNEL_START, LAST_FUNCTION, POSITION_SIZE_U32,
-    SLOT_REST_U32, SLOT_SIZE_U32, STATE_LENGTH,
+    slots_for,
 };
-use writing::bytes::put_run;
 use writing::directories::store_position;
 use writing::notes::store_notes;
 use writing::slots::fill_slots;
@@ -29,7 +28,7 @@ const BOOT_TABLE: u8 = 0;
 
 const BOOT_ENTRIES: u8 = 32;
 
-const TABLE_SLOTS: u32 = (ENTRY_SIZE_U32 * (BOOT_ENTRIES as u32) + SLOT_REST_U32) / SLOT_SIZE_U32;
+const TABLE_BYTES: u32 = ENTRY_SIZE_U32 * (BOOT_ENTRIES as u32);
 
 // "a top directory at slot 16 (size order 29, number order 3, start 0, position i holding frame i·2^29 ..)"
 const BOOT_DIRECTORY: u8 = 16;
@@ -46,8 +45,7 @@ const LAST_POSITION: u32 = BOOT_POSITIONS - 1;
 
 const FRAME_SIZE: u32 = 1 << BOOT_SIZE_ORDER;
 
-const DIRECTORY_SLOTS: u32 = (HEADER_SIZE_U32 + POSITION_SIZE_U32 * BOOT_POSITIONS + SLOT_REST_U32)
-    / SLOT_SIZE_U32;
+const DIRECTORY_BYTES: u32 = HEADER_SIZE_U32 + POSITION_SIZE_U32 * BOOT_POSITIONS;
 
 // "a process at 18 with both"
 const BOOT_PROCESS: u8 = 18;
@@ -62,19 +60,19 @@ const BOOT_ENDPOINT: u8 = 19;
 // A mark that is set: the directory's top mark, and "the boot endpoint bears a mark".
 const MARK: u32 = 1;
 
-const STATE_WORDS: usize = STATE_LENGTH / WORD_SIZE;
-
 // "a 32-entry table at slot 0; a top directory at slot 16 (size order 29, number order 3, start 0 ..); a process at 18 with both;
 // an endpoint at 19", which bears the boot mark
 fn store_objects(s: &mut [u8])
     requires { length s.old ≡ state_length }
     ensures { s.new ≡ with_objects s.old }
 {
-    store_notes(s, Slot(BOOT_TABLE), TABLE_SLOTS, TABLE_TAG, BOOT_ENTRIES);
+    let table_slots = slots_for(TABLE_BYTES);
+    let directory_slots = slots_for(DIRECTORY_BYTES);
+    store_notes(s, Slot(BOOT_TABLE), table_slots, TABLE_TAG, BOOT_ENTRIES);
     store_notes(
         s,
         Slot(BOOT_DIRECTORY),
-        DIRECTORY_SLOTS,
+        directory_slots,
         DIRECTORY_TAG,
         BOOT_NUMBER_ORDER,
     );
@@ -83,25 +81,11 @@ fn store_objects(s: &mut [u8])
     fill_slots(
         s,
         Slot(BOOT_DIRECTORY),
-        DIRECTORY_SLOTS,
-        BOOT_SIZE_ORDER,
-        MARK,
-        BOOT_START,
+        directory_slots,
+        [BOOT_SIZE_ORDER, MARK, BOOT_START],
     );
-    fill_slots(s, Slot(BOOT_PROCESS), 1, TABLE_NAMED, DIRECTORY_NAMED, 0);
-    fill_slots(s, Slot(BOOT_ENDPOINT), 1, 0, MARK, 0);
-}
-
-// "Creation makes the one root of an object, with every flag of its kind"
-fn root_of(kind: Kind) -> Place
-    ensures { result ≡ Holds (root_right kind) }
-{
-    Place::Holds(Capability {
-        kind,
-        flags: all_flags(kind),
-        frost: Frost::Thawed,
-        origin: Origin::Root,
-    })
+    fill_slots(s, Slot(BOOT_PROCESS), 1, [TABLE_NAMED, DIRECTORY_NAMED, 0]);
+    fill_slots(s, Slot(BOOT_ENDPOINT), 1, [0, MARK, 0]);
 }
 
 // "Table entries 0..5: roots of table, directory, process, functions 0..65535, all memory, endpoint"
@@ -109,52 +93,27 @@ fn store_rights(s: &mut [u8])
     requires { length s.old ≡ state_length }
     ensures { s.new ≡ with_rights s.old }
 {
-    store_place(
-        s,
-        Slot(BOOT_TABLE),
-        0,
-        root_of(Kind::Table(Slot(BOOT_TABLE))),
-    );
-    store_place(
-        s,
-        Slot(BOOT_TABLE),
-        1,
-        root_of(Kind::Directory {
+    let kinds = [
+        Kind::Table(Slot(BOOT_TABLE)),
+        Kind::Directory {
             object: Slot(BOOT_DIRECTORY),
             low: 0,
             high: LAST_POSITION,
-        }),
-    );
-    store_place(
-        s,
-        Slot(BOOT_TABLE),
-        2,
-        root_of(Kind::Process(Slot(BOOT_PROCESS))),
-    );
-    store_place(
-        s,
-        Slot(BOOT_TABLE),
-        3,
-        root_of(Kind::Function {
+        },
+        Kind::Process(Slot(BOOT_PROCESS)),
+        Kind::Function {
             low: 0,
             high: LAST_FUNCTION,
-        }),
-    );
-    store_place(
-        s,
-        Slot(BOOT_TABLE),
-        4,
-        root_of(Kind::Memory {
+        },
+        Kind::Memory {
             low: KernelAddress(KERNEL_START),
             high: KernelAddress(KERNEL_END),
-        }),
-    );
-    store_place(
-        s,
-        Slot(BOOT_TABLE),
-        5,
-        root_of(Kind::Endpoint(Slot(BOOT_ENDPOINT))),
-    );
+        },
+        Kind::Endpoint(Slot(BOOT_ENDPOINT)),
+    ];
+    for (e, kind) in kinds.iter().enumerate() {
+        store_place(s, Slot(BOOT_TABLE), e as u32, Some(root_right(*kind)));
+    }
 }
 
 // "position i holding frame i·2^29 with all page flags"
@@ -172,10 +131,8 @@ fn store_pages(s: &mut [u8])
     requires { length s.old ≡ state_length }
     ensures { s.new ≡ with_pages boot_positions s.old }
 {
-    let mut i: u32 = 0;
-    while i < BOOT_POSITIONS {
+    for i in 0..BOOT_POSITIONS {
         store_position(s, Slot(BOOT_DIRECTORY), i, page_of(i));
-        i += 1;
     }
 }
 
@@ -183,7 +140,7 @@ pub fn store_boot(s: &mut [u8])
     requires { length s.old ≡ state_length }
     ensures { s.new ≡ bytes Boot.boot }
 {
-    put_run(s, STATE_WORDS, 0);
+    s.fill(0);
     store_objects(s);
     store_rights(s);
     store_pages(s);

@@ -20,7 +20,7 @@ use Rattle.rules.specs.Buffer.{sound}
 use Rattle.rules.specs.Commit.{commit, create}
 use Rattle.rules.proofs.Facts.{wf_laid}
 use Rattle.rules.proofs.Lift.{sound_open}
-use Rattle.committing.specs.Names.{Blank, ChangeDirectory, ChangeTable, Count, CreateDirectory, CreateEndpoint, CreateProcess, CreateTable, Delete, Directory, Empty, Endpoint, Geometry, Holds, Kind, Place, Position, Process, SetCount, SetPosition, Slot, Spot, Table}
+use Rattle.committing.specs.Names.{None, ChangeDirectory, ChangeTable, Count, CreateDirectory, CreateEndpoint, CreateProcess, CreateTable, Delete, Directory, Empty, Endpoint, Geometry, Some, Kind, Place, Position, Process, SetCount, SetPosition, Slot, Spot, Table}
 use Rattle.committing.specs.Ready.{DeletionSite, DirectorySite, Entry, Site, TableSite}
 
 module _ (b : List ℕ) (h : sound b ≡ true) where
@@ -62,20 +62,20 @@ module _ (b : List ℕ) (h : sound b ≡ true) where
 
   -- ---- a new object with its root
   created : (p : Spot) (s : Slot) (o : Object) (k : Kind) (n : ℕ) (l : List ℕ) → size_of o ≡ n → 1 ≤ n → Site (read b) p s n → bytes (raise (read b) s o) ≡ l
-      → splice (slot_size * p.table.0 + entry_size * p.entry) (place_bytes (Holds (root_right k))) l ≡ bytes (create (read b) p s o k)
+      → splice (slot_size * p.table.0 + entry_size * p.entry) (place_bytes (Some (root_right k))) l ≡ bytes (create (read b) p s o k)
   created p s o k n l size some site new =
-      ap (splice (slot_size * p.table.0 + entry_size * p.entry) (place_bytes (Holds (root_right k)))) (sym new)
-      ∙ sym (bytes_create (read b) laid p (Holds (root_right k)) site.entry s o (rw size some) (subst (Vacant (read b) s) (sym size) (record { fits = site.fits; none = site.vacant })))
+      ap (splice (slot_size * p.table.0 + entry_size * p.entry) (place_bytes (Some (root_right k)))) (sym new)
+      ∙ sym (bytes_create (read b) laid p (Some (root_right k)) site.entry s o (rw size some) (subst (Vacant (read b) s) (sym size) (record { fits = site.fits; none = site.vacant })))
 
   pub table_made : (p : Spot) (s : Slot) (n : ℕ) → TableSite (read b) p s n
-      → splice (slot_size * p.table.0 + entry_size * p.entry) (place_bytes (Holds (root_right (Table s)))) (with_new b s (slots_for (entry_size * n)) 2 n 0 0 0) ≡ bytes (commit (read b) (CreateTable p s n))
+      → splice (slot_size * p.table.0 + entry_size * p.entry) (place_bytes (Some (root_right (Table s)))) (with_new b s (slots_for (entry_size * n)) 2 n 0 0 0) ≡ bytes (commit (read b) (CreateTable p s n))
   table_made p s n q =
-      created p s (table (replicate n Blank)) (Table s) (slots_for (entry_size * n)) _ (table_slots n) (omega (arith, q.some)) q.site
+      created p s (table (replicate n None)) (Table s) (slots_for (entry_size * n)) _ (table_slots n) (omega (arith, q.some)) q.site
       (bytes_new_table (read b) laid s n q.some (record { fits = q.site.fits; none = q.site.vacant })
       ∙ ap (λ (l : List ℕ). with_new l s (slots_for (entry_size * n)) 2 n 0 0 0) back)
 
   pub directory_made : (p : Spot) (s : Slot) (g : Geometry) → DirectorySite (read b) p s g
-      → splice (slot_size * p.table.0 + entry_size * p.entry) (place_bytes (Holds (root_right (Directory s 0 (2 ^ g.number - 1)))))
+      → splice (slot_size * p.table.0 + entry_size * p.entry) (place_bytes (Some (root_right (Directory s 0 (2 ^ g.number - 1)))))
       (with_new b s (slots_for (header_size + position_size * 2 ^ g.number)) 3 g.number g.size (mark g.top) g.start) ≡ bytes (commit (read b) (CreateDirectory p s g))
   directory_made p s g q =
       let m : ℕ = 2 ^ g.number in
@@ -84,13 +84,13 @@ module _ (b : List ℕ) (h : sound b ≡ true) where
       ∙ ap (λ (l : List ℕ). with_new l s (slots_for (header_size + position_size * m)) 3 g.number g.size (mark g.top) g.start) back)
 
   pub process_made : (p : Spot) (s t d : Slot) → Site (read b) p s 1
-      → splice (slot_size * p.table.0 + entry_size * p.entry) (place_bytes (Holds (root_right (Process s)))) (with_new b s 1 4 0 t.0 d.0 0) ≡ bytes (commit (read b) (CreateProcess p s t d))
+      → splice (slot_size * p.table.0 + entry_size * p.entry) (place_bytes (Some (root_right (Process s)))) (with_new b s 1 4 0 t.0 d.0 0) ≡ bytes (commit (read b) (CreateProcess p s t d))
   process_made p s t d q =
       created p s (process t d) (Process s) 1 _ refl (omega arith) q
       (bytes_new_process (read b) laid s t d (record { fits = q.fits; none = q.vacant }) ∙ ap (λ (l : List ℕ). with_new l s 1 4 0 t.0 d.0 0) back)
 
   pub endpoint_made : (p : Spot) (s : Slot) → Site (read b) p s 1
-      → splice (slot_size * p.table.0 + entry_size * p.entry) (place_bytes (Holds (root_right (Endpoint s)))) (with_new b s 1 5 0 0 0 0) ≡ bytes (commit (read b) (CreateEndpoint p s))
+      → splice (slot_size * p.table.0 + entry_size * p.entry) (place_bytes (Some (root_right (Endpoint s)))) (with_new b s 1 5 0 0 0 0) ≡ bytes (commit (read b) (CreateEndpoint p s))
   endpoint_made p s q =
       created p s (endpoint (count 0) false) (Endpoint s) 1 _ refl (omega arith) q
       (bytes_new_endpoint (read b) laid s (record { fits = q.fits; none = q.vacant }) ∙ ap (λ (l : List ℕ). with_new l s 1 5 0 0 0 0) back)
@@ -105,9 +105,9 @@ module _ (b : List ℕ) (h : sound b ≡ true) where
 
   pub delete_law : (p : Spot) (o : Slot) → DeletionSite (read b) p o
       → splice (slot_size * o.0) (replicate (slot_size * size_of (obj_at (read b) o)) 0)
-      (splice (memory_length + 4 * o.0) (replicate (4 * size_of (obj_at (read b) o)) 0) (splice (slot_size * p.table.0 + entry_size * p.entry) (place_bytes Blank) b))
+      (splice (memory_length + 4 * o.0) (replicate (4 * size_of (obj_at (read b) o)) 0) (splice (slot_size * p.table.0 + entry_size * p.entry) (place_bytes None) b))
       ≡ bytes (commit (read b) (Delete p o))
   delete_law p o q =
       let n : ℕ = size_of (obj_at (read b) o) in
-      ap (λ (l : List ℕ). splice (slot_size * o.0) (replicate (slot_size * n) 0) (splice (memory_length + 4 * o.0) (replicate (4 * n) 0) (splice (slot_size * p.table.0 + entry_size * p.entry) (place_bytes Blank) l))) (sym back)
-      ∙ sym (bytes_delete (read b) laid p Blank q.entry o q.stands)
+      ap (λ (l : List ℕ). splice (slot_size * o.0) (replicate (slot_size * n) 0) (splice (memory_length + 4 * o.0) (replicate (4 * n) 0) (splice (slot_size * p.table.0 + entry_size * p.entry) (place_bytes None) l))) (sym back)
+      ∙ sym (bytes_delete (read b) laid p None q.entry o q.stands)

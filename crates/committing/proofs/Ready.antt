@@ -4,7 +4,7 @@ use mathlib.Core.List.{List}
 use mathlib.Core.Path.{◌≡◌}
 use Prim.Native.Nat.{ℕ, ◌<◌, ◌^◌}
 use native.Mathlib.Omega.{arith}
-use Rattle.words.specs.Try.{ok! }
+use Rattle.words.specs.Try.{Ok}
 use Rattle.words.proofs.Flags.{subset_le}
 use Rattle.state.specs.State.{State}
 use Rattle.state.specs.Read.{read}
@@ -48,7 +48,7 @@ pub ready : (st : State) (caller : ℕ) (v : Words) (a : Action) → wf st ≡ t
 ready st caller v a w h = shown_ready st (wf_open st w).shape h.table v a h.shown
 
 -- on a sound buffer
-pub ready_plan : (b : List ℕ) (caller : ℕ) (v : Words) (a : Action) → sound b ≡ true → plan (read b) caller v ≡ ok! a → Ready (read b) a
+pub ready_plan : (b : List ℕ) (caller : ℕ) (v : Words) (a : Action) → sound b ≡ true → plan (read b) caller v ≡ Ok a → Ready (read b) a
 ready_plan b caller v a h p = ready (read b) caller v a (sound_open b h).formed (passed (read b) caller v a p)
 
 -- what it answers is a signed word

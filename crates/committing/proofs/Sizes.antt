@@ -1,14 +1,17 @@
 -- The slots that an object takes, by its tag: what `size_at` reads of a note is enough.
 use mathlib.Core.List.{List}
-use mathlib.Core.Path.{◌≡◌, refl}
-use Prim.Native.Nat.{ℕ, ◌+◌, ◌*◌, ◌<◌}
+use mathlib.Core.Path.{◌≡◌, refl, ◌∙◌}
+use Prim.Native.Nat.{ℕ, ◌+◌, ◌*◌, ◌^◌, ◌<◌, ◌≤◌}
 use native.Mathlib.Decide.{dec_lt}
 use native.Mathlib.Omega.{arith}
 use lib.ListN.{length}
+use lib.Pow.{pow_pos}
+use borrow.Author.Tests.{le-leb}
 use Rattle.words.specs.Sizes.{slot_count, entry_size, header_size, position_size, slots_for}
 use Rattle.state.specs.State.{Object, free, body, table, directory, process, endpoint, size_of, places_of, positions_of, obj_at}
 use Rattle.state.specs.Bytes.{tag_of}
-use Rattle.state.specs.Read.{read}
+use Rattle.state.specs.Read.{positions_for, read}
+use Rattle.state.proofs.Few.{few_for}
 use Rattle.state.proofs.Look.{tag_byte, argument_byte, tag_known, tag_none, entries_known}
 use Rattle.committing.specs.Names.{Slot}
 
@@ -54,3 +57,11 @@ module _ (b : List ℕ) (t : Slot) (ht : t.0 < slot_count) where
 
   pub table_there : tag_of (obj_at (read b) t) ≡ 2 → size_of (obj_at (read b) t) ≡ slots_for (entry_size * argument_byte b t.0)
   table_there h = rw (← entries_known b t ht (note_tag h)) (table_size (obj_at (read b) t) h)
+
+-- "2^k entries, k from 1 to 8"
+pub width : (k : ℕ) → k ≤ 8 → positions_for k ≡ 2 ^ k
+unfolding positions_for
+width k h = rw (le-leb k 8 h)
+
+pub widths : (k n : ℕ) → k ≤ 8 → n ≡ positions_for k → (n ≡ 2 ^ k) × (1 ≤ n) × (n ≤ 256)
+widths k n h e = (e ∙ width k h, omega (arith, e, width k h, pow_pos k), omega (arith, e, few_for k))

@@ -4,8 +4,8 @@ pub use Rattle.words.specs.declared.numbers.Count.{Count}
 pub use Rattle.words.specs.declared.capabilities.Kind.{Kind}
 pub use Rattle.words.specs.declared.capabilities.Kind.TheVariants.{Table, Directory, Process, Endpoint}
 pub use Rattle.words.specs.declared.capabilities.Capability.{Capability}
-pub use Rattle.words.specs.declared.capabilities.Place.{Place}
-pub use Rattle.words.specs.declared.capabilities.Place.TheVariants.{Blank, Holds}
+pub use Rattle.words.specs.Names.{Place}
+pub use Rattle.std.specs.Prelude.{None, Some}
 pub use Rattle.words.specs.declared.capabilities.Position.{Position}
 pub use Rattle.words.specs.declared.capabilities.Position.TheVariants.{Empty, Page, Child}
 pub use Rattle.words.specs.declared.capabilities.Geometry.{Geometry}

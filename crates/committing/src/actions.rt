@@ -22,55 +22,35 @@ pub fn carry_out(s: &mut [u8], a: Action)
     ensures { s.new ≡ bytes (commit (read s.old) a) }
 {
     match a {
-        Action::CreateTable { at, first, entries } => {
-            commit_create_table(s, at, first, entries);
-        }
-        Action::CreateDirectory { at, first, shape } => {
-            commit_create_directory(s, at, first, shape);
-        }
+        Action::CreateTable { at, first, entries } => commit_create_table(s, at, first, entries),
+        Action::CreateDirectory { at, first, shape } => commit_create_directory(
+            s, at, first, shape,
+        ),
         Action::CreateProcess {
             at,
             first,
             table,
             directory,
-        } => {
-            commit_create_process(s, at, first, table, directory);
-        }
-        Action::CreateEndpoint { at, first } => {
-            commit_create_endpoint(s, at, first);
-        }
-        Action::Delete { at, object } => {
-            commit_delete(s, at, object);
-        }
-        Action::Fill { at, right } => {
-            commit_fill(s, at, right);
-        }
-        Action::Freeze { at } => {
-            commit_freeze(s, at);
-        }
-        Action::Remove { at } => {
-            commit_remove(s, at);
-        }
+        } => commit_create_process(s, at, first, table, directory),
+        Action::CreateEndpoint { at, first } => commit_create_endpoint(s, at, first),
+        Action::Delete { at, object } => commit_delete(s, at, object),
+        Action::Fill { at, right } => commit_fill(s, at, right),
+        Action::Freeze { at } => commit_freeze(s, at),
+        Action::Remove { at } => commit_remove(s, at),
         Action::SetPosition {
             directory,
             position,
             to,
-        } => {
-            commit_set_position(s, directory, position, to);
-        }
-        Action::ChangeTable { process, table } => {
-            commit_change_table(s, process, table);
-        }
-        Action::ChangeDirectory { process, directory } => {
-            commit_change_directory(s, process, directory);
-        }
+        } => commit_set_position(s, directory, position, to),
+        Action::ChangeTable { process, table } => commit_change_table(s, process, table),
+        Action::ChangeDirectory { process, directory } => commit_change_directory(
+            s, process, directory,
+        ),
         Action::SetCount {
             endpoint,
             count,
             taken,
-        } => {
-            commit_set_count(s, endpoint, count, taken);
-        }
+        } => commit_set_count(s, endpoint, count, taken),
         Action::Answer(_) => {}
     }
 }

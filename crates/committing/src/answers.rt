@@ -10,11 +10,7 @@ pub fn answer_of(a: Action) -> i32
     ensures { result ≡ pos (success a) }
 {
     match a {
-        Action::SetCount {
-            endpoint: _,
-            count: _,
-            taken,
-        } => taken.0 as i32,
+        Action::SetCount { taken, .. } => taken.0 as i32,
         Action::Answer(n) => n as i32,
         _ => 0,
     }

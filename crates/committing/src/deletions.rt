@@ -11,26 +11,22 @@ ghost use Rattle.committing.specs.Ready.{Ready};
 use reading::directories::positions_in;
 use reading::notes::{argument_byte, tag_at};
 use words::actions::Spot;
-use words::capabilities::Place;
 use words::layout::{DIRECTORY_TAG, LATER_TAG, TABLE_TAG};
 use words::numbers::Slot;
-use words::sizes::{
-    ENTRY_SIZE_U32, HEADER_SIZE_U32, POSITION_SIZE_U32, SLOT_REST_U32, SLOT_SIZE_U32,
-};
+use words::sizes::{ENTRY_SIZE_U32, HEADER_SIZE_U32, POSITION_SIZE_U32, slots_for};
 use writing::notes::clear_notes;
 use writing::slots::clear_slots;
 use writing::tables::store_place;
 
-// How many slots the object in a slot takes, as its note tells; none where an object goes on.
+// How many slots the object in a slot takes, as its note tells; none where an object goes on. Beside `size_at` of audit_layout,
+// which reads a note where it is known to lie and so does not test it again.
 fn size_at(s: &[u8], o: Slot) -> u32
     ensures { result ≡ size_of (obj_at (read s.now) o) }
 {
     match tag_at(s, o) {
         LATER_TAG => 0,
-        TABLE_TAG => (ENTRY_SIZE_U32 * (argument_byte(s, o) as u32) + SLOT_REST_U32)
-            / SLOT_SIZE_U32,
-        DIRECTORY_TAG => (HEADER_SIZE_U32 + POSITION_SIZE_U32 * positions_in(s, o) + SLOT_REST_U32)
-            / SLOT_SIZE_U32,
+        TABLE_TAG => slots_for(ENTRY_SIZE_U32 * (argument_byte(s, o) as u32)),
+        DIRECTORY_TAG => slots_for(HEADER_SIZE_U32 + POSITION_SIZE_U32 * positions_in(s, o)),
         _ => 1,
     }
 }
@@ -41,8 +37,7 @@ pub(crate) fn commit_delete(s: &mut [u8], at: Spot, object: Slot)
     ensures { s.new ≡ bytes (commit (read s.old) (Delete at object)) }
 {
     let n = size_at(s, object);
-    let t = at.table;
-    store_place(s, t, at.entry, Place::Blank);
+    store_place(s, at.table, at.entry, None);
     clear_notes(s, object, n);
     clear_slots(s, object, n);
 }

@@ -18,27 +18,17 @@ pub(crate) fn commit_fill(s: &mut [u8], at: Spot, right: Capability)
     requires ready { Ready (read s.old) (Fill at right) }
     ensures { s.new ≡ bytes (commit (read s.old) (Fill at right)) }
 {
-    let t = at.table;
-    store_place(s, t, at.entry, Place::Holds(right));
+    store_place(s, at.table, at.entry, Some(right));
 }
 
 // "a frozen mark with its stamp"
 fn frozen(p: Place, stamp: u32) -> Place
     ensures { result ≡ froze stamp p }
 {
-    match p {
-        Place::Blank => Place::Blank,
-        Place::Holds(c) => {
-            let kind = c.kind;
-            let origin = c.origin;
-            Place::Holds(Capability {
-                kind,
-                flags: c.flags,
-                frost: Frost::Frozen(stamp),
-                origin,
-            })
-        }
-    }
+    p.map(|c| Capability {
+        frost: Frost::Frozen(stamp),
+        ..c
+    })
 }
 
 // The stamp is the clock.
@@ -47,9 +37,8 @@ pub(crate) fn commit_freeze(s: &mut [u8], at: Spot)
     requires ready { Ready (read s.old) (Freeze at) }
     ensures { s.new ≡ bytes (commit (read s.old) (Freeze at)) }
 {
-    let t = at.table;
-    let p = frozen(place_at(s, t, at.entry), clock(s));
-    store_place(s, t, at.entry, p);
+    let p = frozen(place_at(s, at.table, at.entry), clock(s));
+    store_place(s, at.table, at.entry, p);
 }
 
 pub(crate) fn commit_remove(s: &mut [u8], at: Spot)
@@ -57,6 +46,5 @@ pub(crate) fn commit_remove(s: &mut [u8], at: Spot)
     requires ready { Ready (read s.old) (Remove at) }
     ensures { s.new ≡ bytes (commit (read s.old) (Remove at)) }
 {
-    let t = at.table;
-    store_place(s, t, at.entry, Place::Blank);
+    store_place(s, at.table, at.entry, None);
 }

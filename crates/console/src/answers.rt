@@ -1,4 +1,5 @@
 // An answer as a number and, where asked for, in words.
+use crate::reply::Reply;
 use lines::counts::count_of;
 use rows::{say_form, say_row};
 use std::io::Result;
@@ -6,7 +7,7 @@ use words::calls::{FUNCTION, RECEIVE};
 
 // Document 01's table "Refusals by number, and when": row k has −(k + 1).
 fn say_refusal(rt: &impl Print, k: u32) -> Result<()> {
-    let n = k as u64 + 1;
+    let n = u64::from(k) + 1;
     say_row(
         rt,
         b"-# CAP_RANGE: a capability number or place is beyond the table, or the entries are not 1 to 64\n\
@@ -33,41 +34,45 @@ fn say_refusal(rt: &impl Print, k: u32) -> Result<()> {
     )
 }
 
-// "Success is 0, or a non-negative count": what is counted depends on the call.
-fn meaning_of(call: u32) -> u32 {
-    match call {
-        RECEIVE => 1,
-        FUNCTION => 2,
-        _ => 0,
+// "Success is 0, or a non-negative count": what is counted depends on the call. Each is a row of what is printed.
+#[derive(Clone, Copy)]
+enum Meaning {
+    Done,
+    Signals,
+    Clock,
+}
+
+impl Meaning {
+    fn of_call(call: u32) -> Self {
+        match call {
+            RECEIVE => Meaning::Signals,
+            FUNCTION => Meaning::Clock,
+            _ => Meaning::Done,
+        }
     }
 }
 
-fn say_success(rt: &impl Print, n: u64, call: u32) -> Result<()> {
+fn say_success(rt: &impl Print, n: u64, meaning: Meaning) -> Result<()> {
     say_row(
         rt,
         b"# done\n\
         # done: the signals taken\n\
         # done: the clock mod 2^31\n",
-        meaning_of(call),
+        meaning as u32,
         [n, 0, 0, 0],
     )
 }
 
-fn say_refused(rt: &impl Print, k: u32, in_words: bool) -> Result<()> {
-    if in_words {
-        return say_refusal(rt, k);
+impl Reply {
+    // The answer n to the call of that number; a tick has none, and 0 stands for it. A refusal −(k + 1) has k for its complement.
+    pub(crate) fn say_answer(self, rt: &impl Print, n: i32, call: u32) -> Result<()> {
+        let k = count_of(!n);
+        let count = u64::from(count_of(n));
+        match (n < 0, self.in_words) {
+            (true, true) => say_refusal(rt, k),
+            (true, false) => say_form(rt, b"-#\n", [u64::from(k) + 1, 0, 0, 0]),
+            (false, true) => say_success(rt, count, Meaning::of_call(call)),
+            (false, false) => say_form(rt, b"#\n", [count, 0, 0, 0]),
+        }
     }
-    say_form(rt, b"-#\n", [k as u64 + 1, 0, 0, 0])
-}
-
-// The answer n to the call of that number; a tick has none, and 0 stands for it. A refusal −(k + 1) has k for its complement.
-pub(crate) fn say_answer(rt: &impl Print, n: i32, call: u32, in_words: bool) -> Result<()> {
-    if n < 0 {
-        return say_refused(rt, count_of(!n), in_words);
-    }
-    let count = count_of(n) as u64;
-    if in_words {
-        return say_success(rt, count, call);
-    }
-    say_form(rt, b"#\n", [count, 0, 0, 0])
 }

@@ -1,7 +1,7 @@
 // What a line does to the state, and what it prints.
-use crate::answers::say_answer;
-use crate::faults::say_fault;
+use crate::reply::Reply;
 use crate::texts::{load, save};
+use input::Line;
 use kernel::calls::kernel_call;
 use kernel::states::{kernel_boot, kernel_tick};
 use lines::requests::{Call, Request, name_in, request_in};
@@ -11,23 +11,11 @@ use std::rt::Files;
 use words::fields::{CALL_NUMBERS, HALF};
 use words::sizes::STATE_LENGTH;
 
-pub(crate) fn boot(s: &mut [u8; STATE_LENGTH]) {
-    kernel_boot(s);
-}
-
-// K ticks, left at the first that is refused; the answer is the last one's, and 0 where K is 0.
-fn ticks(s: &mut [u8; STATE_LENGTH], k: u32) -> i32 {
-    for _ in 0..k {
-        let answer = kernel_tick(s);
-        if answer != 0 {
-            return answer;
-        }
-    }
-    0
-}
-
-fn call(s: &mut [u8; STATE_LENGTH], c: Call) -> i32 {
-    kernel_call(s, c.caller, c.w0, c.w1, c.w2, c.w3)
+// The state that the lines act on, and whether answers have words behind them.
+#[derive(Drop)]
+pub struct Session {
+    state: [u8; STATE_LENGTH],
+    in_words: bool,
 }
 
 // N[5:0], the call number.
@@ -35,26 +23,68 @@ fn call_number(w0: u32) -> u32 {
     w0 / HALF % CALL_NUMBERS
 }
 
-// `number` is the line's.
-pub(crate) fn step(
-    rt: &(impl Files + Print),
-    s: &mut [u8; STATE_LENGTH],
-    line: &[u8],
-    number: u64,
-    in_words: bool,
-) -> Result<()> {
-    let r = request_in(line);
-    match r {
-        Request::Nothing => Ok(()),
-        Request::Boot => {
-            boot(s);
-            Ok(())
+impl Session {
+    // At the boot state.
+    pub(crate) fn new(in_words: bool) -> Self {
+        let mut session = Session {
+            state: [0; STATE_LENGTH],
+            in_words,
+        };
+        session.boot();
+        session
+    }
+
+    fn boot(&mut self) {
+        kernel_boot(&mut self.state);
+    }
+
+    // K ticks, left at the first that is refused; the answer is the last one's, and 0 where K is 0.
+    fn tick(&mut self, k: u32) -> i32 {
+        for _ in 0..k {
+            let answer = kernel_tick(&mut self.state);
+            if answer != 0 {
+                return answer;
+            }
         }
-        Request::Show => show(rt, s),
-        Request::Save => save(rt, s, name_in(line), number, in_words),
-        Request::Load => load(rt, s, name_in(line), number, in_words),
-        Request::Tick(k) => say_answer(rt, ticks(s, k), 0, in_words),
-        Request::Call(c) => say_answer(rt, call(s, c), call_number(c.w0), in_words),
-        Request::Unreadable(f) => say_fault(rt, number, f),
+        0
+    }
+
+    fn call(&mut self, c: Call) -> i32 {
+        kernel_call(&mut self.state, c.caller, c.w0, c.w1, c.w2, c.w3)
+    }
+
+    fn fulfil(
+        &mut self,
+        rt: &(impl Files + Print),
+        request: Request,
+        line: &[u8],
+        reply: Reply,
+    ) -> Result<()> {
+        match request {
+            Request::Nothing => Ok(()),
+            Request::Boot => {
+                self.boot();
+                Ok(())
+            }
+            Request::Show => show(rt, &self.state),
+            Request::Save => save(rt, &self.state, name_in(line), reply),
+            Request::Load => load(rt, &mut self.state, name_in(line), reply),
+            Request::Tick(k) => reply.say_answer(rt, self.tick(k), 0),
+            Request::Call(c) => reply.say_answer(rt, self.call(c), call_number(c.w0)),
+        }
+    }
+
+    pub(crate) fn take(&mut self, rt: &(impl Files + Print), line: Line) -> Result<()> {
+        let reply = Reply {
+            number: line.number,
+            in_words: self.in_words,
+        };
+        if line.is_longer {
+            return reply.say_long_line(rt);
+        }
+        match request_in(line.bytes) {
+            Ok(request) => self.fulfil(rt, request, line.bytes, reply),
+            Err(fault) => reply.say_fault(rt, fault),
+        }
     }
 }

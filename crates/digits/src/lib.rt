@@ -10,7 +10,8 @@ pub const HEX_BASE: u8 = 16;
 // `A` stands for 10: what is added to a digit from there on.
 const LETTER_SHIFT: u8 = b'A' - 10;
 
-// What a character counts as a digit.
+// What a character counts as a digit. A number and no Option: all_digits, pairs and value_from of the specs compare and add digit_of's number,
+// 16 for none among them, so that one comparison with the base tells both no digit and one above the base.
 pub fn digit(b: u8) -> u8
     ensures { result ≡ digit_of b }
 {

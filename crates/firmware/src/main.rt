@@ -11,25 +11,11 @@ use lines::gather::first;
 use std::io::{Read, Result};
 use words::sizes::STATE_LENGTH;
 
-fn say(rt: &impl Print, text: &[u8]) -> Result<()> {
-    rt.write_all(text)
-}
-
-fn say_fault(rt: &impl Print, refusal: &[u8], line: u64) -> Result<()> {
-    say(rt, refusal)?;
-    say(rt, b" line ")?;
-    print!(rt; "{line}")?;
-    say(rt, b"\n")
-}
-
 // `line` is the one at fault; a state that is not well formed has none.
 fn say_refusal(rt: &impl Print, answer: i32, line: u64) -> Result<()> {
     match answer {
-        -30 => say_fault(rt, b"-30", line),
-        -31 => say_fault(rt, b"-31", line),
-        -32 => say_fault(rt, b"-32", line),
-        -33 => say_fault(rt, b"-33", line),
-        _ => say(rt, b"-19\n"),
+        -30 | -31 | -32 | -33 => println!(rt; "{answer} line {line}"),
+        _ => println!(rt; "-19"),
     }
 }
 
@@ -38,11 +24,10 @@ fn write_state(
     s: &[u8; STATE_LENGTH],
     text: &mut [u8; TEXT_LENGTH],
 ) -> Result<()> {
-    let answer = kernel_write_hex(s, text);
-    if answer != 0 {
-        return say_refusal(rt, answer, 0);
+    match kernel_write_hex(s, text) {
+        0 => rt.write_all(text),
+        answer => say_refusal(rt, answer, 0),
     }
-    say(rt, text)
 }
 
 fn say_state(rt: &impl Print, s: &[u8; STATE_LENGTH]) -> Result<()> {
@@ -59,12 +44,10 @@ fn say_boot(rt: &impl Print) -> Result<()> {
 // The line behind those that are taken is the one at fault.
 fn say_anew(rt: &impl Print, text: &[u8]) -> Result<()> {
     let mut s = [0u8; STATE_LENGTH];
-    let answer = kernel_read_hex(text, &mut s);
-    if answer != 0 {
-        let line = std::num::wrapping_add_u64(kernel_hex_lines(text) as u64, 1);
-        return say_refusal(rt, answer, line);
+    match kernel_read_hex(text, &mut s) {
+        0 => say_state(rt, &s),
+        answer => say_refusal(rt, answer, (kernel_hex_lines(text) as u64).wrapping_add(1)),
     }
-    say_state(rt, &s)
 }
 
 fn goes_on(input: &mut impl Read) -> Result<bool> {
@@ -72,7 +55,8 @@ fn goes_on(input: &mut impl Read) -> Result<bool> {
     Ok(0 < input.read(&mut one)?)
 }
 
-// Reads until the text is full or the input ends, and answers how many bytes were read.
+// Reads until the text is full or the input ends, and answers how many bytes were read. The console has a function of this kind too: in
+// a library its contract would have to determine the bytes that it lends (proofs/Tight.antt), and no contract says what a read gives.
 fn read_full(input: &mut impl Read, text: &mut [u8]) -> Result<usize>
     ensures { IfOk result (λ n. n ≤ length text.new) }
 {
@@ -99,10 +83,7 @@ fn answer_input(
         return say_boot(rt);
     }
     if goes_on(input)? {
-        return say(
-            rt,
-            b"longer than 262144 bytes, more than a state's text needs\n",
-        );
+        return println!(rt; "longer than 262144 bytes, more than a state's text needs");
     }
     say_anew(rt, first(text, n))
 }

@@ -1,81 +1,92 @@
 // The answers that reading a text gives, as a recorded line spells them and as they are printed, and how many texts had each.
 use crate::fields::value_of;
+use std::fmt;
 use std::io::Result;
 
-pub(crate) const ANSWERS: usize = 6;
-
-// Stands for a word that is no answer: reading never gives it.
-pub(crate) const NO_ANSWER: i32 = 1;
-
-fn say(rt: &impl Print, text: &[u8]) -> Result<()> {
-    rt.write_all(text)
+#[derive(Clone, Copy, PartialEq, Eq)]
+pub enum Answer {
+    Taken,
+    NoState,
+    BadLine,
+    BadSum,
+    BadAddress,
+    BadEnd,
 }
 
-fn refusal_of(number: u32) -> i32 {
-    match number {
-        19 => -19,
-        30 => -30,
-        31 => -31,
-        32 => -32,
-        33 => -33,
-        _ => NO_ANSWER,
+const ANSWERS: [Answer; 6] = [
+    Answer::Taken,
+    Answer::NoState,
+    Answer::BadLine,
+    Answer::BadSum,
+    Answer::BadAddress,
+    Answer::BadEnd,
+];
+
+impl Answer {
+    fn number(self) -> i32 {
+        match self {
+            Answer::Taken => 0,
+            Answer::NoState => -19,
+            Answer::BadLine => -30,
+            Answer::BadSum => -31,
+            Answer::BadAddress => -32,
+            Answer::BadEnd => -33,
+        }
+    }
+
+    // The answer that has a number; reading has no others.
+    pub(crate) fn of(number: i32) -> Option<Answer> {
+        match number {
+            0 => Some(Answer::Taken),
+            -19 => Some(Answer::NoState),
+            -30 => Some(Answer::BadLine),
+            -31 => Some(Answer::BadSum),
+            -32 => Some(Answer::BadAddress),
+            -33 => Some(Answer::BadEnd),
+            _ => None,
+        }
+    }
+
+    // 0, or a refusal behind its sign.
+    pub(crate) fn in_word(word: &[u8]) -> Option<Answer> {
+        match word {
+            [b'-', digits @ ..] => match value_of(digits)? {
+                0 => None,
+                k => Answer::of(i32::try_from(k).ok()?.wrapping_neg()),
+            },
+            _ => match value_of(word)? {
+                0 => Some(Answer::Taken),
+                _ => None,
+            },
+        }
     }
 }
 
-pub(crate) fn answer_in(word: &[u8]) -> i32 {
-    if word.len() == 0 {
-        return NO_ANSWER;
-    }
-    if word[0] == b'-' {
-        return refusal_of(value_of(&word[1..]));
-    }
-    if value_of(word) == 0 { 0 } else { NO_ANSWER }
-}
-
-pub(crate) fn say_answer(rt: &impl Print, answer: i32) -> Result<()> {
-    match answer {
-        0 => say(rt, b"0"),
-        -19 => say(rt, b"-19"),
-        -30 => say(rt, b"-30"),
-        -31 => say(rt, b"-31"),
-        -32 => say(rt, b"-32"),
-        -33 => say(rt, b"-33"),
-        _ => say(rt, b"another answer"),
+impl fmt::Display for Answer {
+    fn fmt<W: fmt::Write>(&self, f: &mut fmt::Formatter<W>) -> fmt::Result {
+        let number = self.number();
+        write!(f, "{number}")
     }
 }
 
-// Which of the counts is an answer's; ANSWERS is none.
-fn column(answer: i32) -> usize {
-    match answer {
-        0 => 0,
-        -19 => 1,
-        -30 => 2,
-        -31 => 3,
-        -32 => 4,
-        -33 => 5,
-        _ => ANSWERS,
+// How many texts had each answer, in the order of the answers.
+#[derive(Clone, Copy)]
+pub struct Counts([u64; 6]);
+
+impl Counts {
+    pub(crate) fn new() -> Self {
+        Counts([0; 6])
     }
-}
 
-pub(crate) fn count(counts: &mut [u64; ANSWERS], answer: i32) {
-    let k = column(answer);
-    if k < ANSWERS {
-        counts[k] = std::num::wrapping_add_u64(counts[k], 1);
+    pub(crate) fn count(&mut self, answer: Answer) {
+        let place = answer as usize;
+        self.0[place] = self.0[place].wrapping_add(1);
     }
-}
 
-fn say_count(rt: &impl Print, answer: i32, n: u64) -> Result<()> {
-    say_answer(rt, answer)?;
-    say(rt, b": ")?;
-    print!(rt; "{n}")?;
-    say(rt, b" texts\n")
-}
-
-pub(crate) fn say_counts(rt: &impl Print, counts: &[u64; ANSWERS]) -> Result<()> {
-    say_count(rt, 0, counts[0])?;
-    say_count(rt, -19, counts[1])?;
-    say_count(rt, -30, counts[2])?;
-    say_count(rt, -31, counts[3])?;
-    say_count(rt, -32, counts[4])?;
-    say_count(rt, -33, counts[5])
+    pub(crate) fn say(&self, rt: &impl Print) -> Result<()> {
+        for (answer, n) in ANSWERS.iter().zip(&self.0) {
+            println!(rt; "{answer}: {n} texts")?;
+        }
+        Ok(())
+    }
 }

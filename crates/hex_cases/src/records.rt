@@ -1,107 +1,77 @@
 // What a recorded line says: which bytes of the boot state's text are replaced and by which, and what reading it gives then.
-use crate::answers::{NO_ANSWER, answer_in};
-use crate::fields::{field_at, word_at};
-use crate::texts::CASE_LENGTH;
-use digits::digit;
-use intel_hex::marks::TEXT_LENGTH;
-use lines::spans::word_after;
+ghost use Rattle.std.specs.Prelude.{◌≤◌};
+ghost use Rattle.intel_hex.specs.declared.marks.TheConstants.{TEXT_LENGTH};
 
-// The answer and how many lines are taken; the bytes from index `from` to before index `to` give way to those that the word at or
-// after byte `bytes` of the line spells.
+use crate::answers::Answer;
+use crate::fields::number_of;
+use crate::texts::CASE_LENGTH;
+use digits::{HEX_BASE, digit};
+use input::Line;
+use input::fields::Fields;
+use intel_hex::marks::TEXT_LENGTH;
+
+// The answer and how many lines are taken; the bytes from index `from` to before index `to` give way to those that the pairs of digits
+// spell.
 #[derive(Clone, Copy)]
-pub struct Case {
-    pub answer: i32,
+pub struct Case<'a> {
+    pub answer: Answer,
     pub taken: usize,
     pub from: usize,
     pub to: usize,
-    pub bytes: usize,
+    pub digits: &'a [u8],
+    ghost ordered: { from ≤ to },
+    ghost inside: { to ≤ TEXT_LENGTH },
 }
 
+// A line that is no case.
 #[derive(Clone, Copy)]
-pub enum Record {
-    Nothing,
-    Judged(Case),
-    Unreadable,
-}
-
-fn case_in(line: &[u8]) -> Case {
-    let answer = word_after(line, 0);
-    let taken = field_at(line, answer.to);
-    let from = field_at(line, taken.next);
-    let to = field_at(line, from.next);
-    Case {
-        answer: answer_in(word_at(line, 0)),
-        taken: taken.value as usize,
-        from: from.value as usize,
-        to: to.value as usize,
-        bytes: to.next,
-    }
-}
-
-fn all_digits(word: &[u8]) -> bool {
-    for i in 0..word.len() {
-        if 15 < digit(word[i]) {
-            return false;
-        }
-    }
-    true
-}
+pub struct Unreadable;
 
 // Pairs of digits, or `-` for none.
-fn spells_bytes(word: &[u8]) -> bool {
-    if word.len() == 0 {
-        return false;
+fn pairs_in(word: &[u8]) -> Option<&[u8]> {
+    match word {
+        [] => None,
+        b"-" => Some(&[]),
+        _ => {
+            let spells_bytes = word.len() % 2 == 0 && word.iter().all(|&b| digit(b) < HEX_BASE);
+            spells_bytes.then_some(word)
+        }
     }
-    if word.len() == 1 {
-        return word[0] == b'-';
-    }
-    if word.len() % 2 != 0 {
-        return false;
-    }
-    all_digits(word)
 }
 
-// The digits of the bytes that a case puts in.
-pub(crate) fn pairs_in(line: &[u8], c: Case) -> &[u8] {
-    let word = word_at(line, c.bytes);
-    if word.len() == 1 {
-        return &word[1..];
+// The case whose answer is spelled by a word and the rest by the fields behind it. A text has no more lines than bytes.
+fn case_of<'a>(answer: &[u8], mut fields: Fields<'a>) -> Option<Case<'a>> {
+    let answer = Answer::in_word(answer)?;
+    let taken = number_of(&mut fields)?;
+    let from = number_of(&mut fields)?;
+    let to = number_of(&mut fields)?;
+    let digits = pairs_in(fields.word())?;
+    if CASE_LENGTH < taken || to < from || TEXT_LENGTH < to {
+        return None;
     }
-    word
+    Some(Case {
+        answer,
+        taken,
+        from,
+        to,
+        digits,
+    })
 }
 
-// A text has no more lines than bytes.
-fn is_readable(line: &[u8], c: Case) -> bool {
-    if c.answer == NO_ANSWER {
-        return false;
+// A blank line and one that begins with # say nothing; a line that is longer than what is here of it is no case.
+pub(crate) fn case_in<'a>(line: Line<'a>) -> Result<Option<Case<'a>>, Unreadable> {
+    if line.is_longer {
+        return Err(Unreadable);
     }
-    if CASE_LENGTH < c.taken {
-        return false;
+    let mut fields = Fields {
+        line: line.bytes,
+        at: 0,
+    };
+    match fields.word() {
+        [] | [b'#', ..] => Ok(None),
+        answer => match case_of(answer, fields) {
+            Some(c) => Ok(Some(c)),
+            None => Err(Unreadable),
+        },
     }
-    if c.to < c.from {
-        return false;
-    }
-    if TEXT_LENGTH < c.to {
-        return false;
-    }
-    spells_bytes(word_at(line, c.bytes))
-}
-
-// A blank line and one that begins with # say nothing; one that had more bytes, by its length, than are here is no case.
-pub(crate) fn record_in(line: &[u8], length: usize) -> Record {
-    if line.len() < length {
-        return Record::Unreadable;
-    }
-    let word = word_at(line, 0);
-    if word.len() == 0 {
-        return Record::Nothing;
-    }
-    if word[0] == b'#' {
-        return Record::Nothing;
-    }
-    let c = case_in(line);
-    if is_readable(line, c) {
-        return Record::Judged(c);
-    }
-    Record::Unreadable
 }

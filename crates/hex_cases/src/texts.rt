@@ -1,60 +1,58 @@
 // The text of a case: the boot state's text in which some bytes have given way to others.
+ghost use Rattle.std.specs.Prelude.{◌≤◌};
+ghost use Rattle.hex_cases.specs.declared.texts.TheConstants.{CASE_LENGTH};
+
+use crate::records::Case;
 use digits::digit;
 use intel_hex::marks::TEXT_LENGTH;
-use lines::gather::{LINE_LENGTH, first};
+use lines::gather::LINE_LENGTH;
 
 // No line spells more bytes than it has.
 pub(crate) const CASE_LENGTH: usize = TEXT_LENGTH + LINE_LENGTH;
 
-// Puts a byte at an index and answers the next one.
-fn put(text: &mut [u8; CASE_LENGTH], at: usize, byte: u8) -> usize {
-    if at < CASE_LENGTH {
-        text[at] = byte;
-        return at + 1;
-    }
-    at
+// A text as far as it is put together.
+#[derive(Clone, Copy)]
+pub struct Text {
+    bytes: [u8; CASE_LENGTH],
+    length: usize,
+    ghost inside: { length ≤ CASE_LENGTH },
 }
 
-fn put_part(text: &mut [u8; CASE_LENGTH], at: usize, part: &[u8]) -> usize {
-    let mut end = at;
-    for i in 0..part.len() {
-        end = put(text, end, part[i]);
-    }
-    end
-}
-
-// The bytes that pairs of digits spell, the high digit first.
-fn put_pairs(text: &mut [u8; CASE_LENGTH], at: usize, pairs: &[u8]) -> usize {
-    let mut end = at;
-    let mut high: u8 = 0;
-    for i in 0..pairs.len() {
-        let d = digit(pairs[i]);
-        if i % 2 == 0 {
-            high = d;
-        } else {
-            end = put(text, end, (high << 4) | d);
+impl Text {
+    fn put(&mut self, byte: u8) {
+        if self.length < CASE_LENGTH {
+            self.bytes[self.length] = byte;
+            self.length += 1;
         }
     }
-    end
-}
 
-// The text from index `at` on.
-fn rest(text: &[u8], at: usize) -> &[u8] {
-    if at <= text.len() {
-        return &text[at..];
+    fn put_all(&mut self, bytes: &[u8]) {
+        for &byte in bytes {
+            self.put(byte);
+        }
     }
-    text
-}
 
-// Puts the text together and answers its length.
-pub(crate) fn make(
-    text: &mut [u8; CASE_LENGTH],
-    written: &[u8; TEXT_LENGTH],
-    from: usize,
-    to: usize,
-    pairs: &[u8],
-) -> usize {
-    let before = put_part(text, 0, first(written, from));
-    let between = put_pairs(text, before, pairs);
-    put_part(text, between, rest(written, to))
+    // The bytes that pairs of digits spell, the high digit first.
+    fn put_pairs(&mut self, digits: &[u8]) {
+        for pair in digits.chunks_exact(2) {
+            if let [high, low] = pair {
+                self.put(digit(*high) << 4 | digit(*low));
+            }
+        }
+    }
+
+    pub(crate) fn of(written: &[u8; TEXT_LENGTH], c: Case) -> Self {
+        let mut text = Text {
+            bytes: [0; CASE_LENGTH],
+            length: 0,
+        };
+        text.put_all(&written[..c.from]);
+        text.put_pairs(c.digits);
+        text.put_all(&written[c.to..]);
+        text
+    }
+
+    pub(crate) fn as_slice(&self) -> &[u8] {
+        &self.bytes[..self.length]
+    }
 }

@@ -1,10 +1,10 @@
 // A state read from Intel HEX: from any text that gives each of its bytes once.
 #![tactic(auto)]
 
-ghost use Rattle.std.specs.Prelude.{◌≡◌, ℕ, ◌≤◌, get_or, length};
-ghost use Rattle.words.specs.Sizes.{state_length};
-ghost use Rattle.intel_hex.specs.Outcomes.{read_outcome, stored};
-ghost use Rattle.intel_hex.specs.Reading.{given, gives, taken_of};
+ghost use Rattle.std.specs.Prelude.{◌≡◌};
+ghost use Rattle.intel_hex.specs.Outcomes.{read_outcome};
+ghost use Rattle.intel_hex.specs.Reading.{taken_of};
+ghost use Rattle.hex_reading.specs.Told.{reply_of};
 
 mod cells;
 mod faults;
@@ -13,38 +13,36 @@ mod taking;
 mod text_lines;
 
 use crate::cells::bytes_of;
-use crate::faults::fault_number;
-use crate::taking::{Reading, read_text};
+use crate::faults::{Unread, number_of};
+use crate::taking::Course;
 use audit::well_formed;
-use words::refusals::{Refusal, refusal_number};
 use words::sizes::STATE_LENGTH;
 
-// What was given, where it is a well-formed state. The destination is not written before the check has passed.
-fn store_given(cells: &[u16; STATE_LENGTH], s: &mut [u8]) -> i32
-    requires { (length cells.now ≡ state_length) × (length s.old ≡ state_length) × ((i : ℕ) → get_or cells.now i 0 ≤ 256) }
-    ensures { (record { reply = result; buffer = s.new }) ≡ stored s.old (gives (given cells.now)) }
+// The destination is not written before the check has passed.
+fn read_state(text: &[u8], s: &mut [u8]) -> Result<(), Unread>
+    ensures { (record { reply = reply_of result; buffer = s.new }) ≡ read_outcome text.now s.old }
 {
-    let mut state = [0u8; STATE_LENGTH];
-    bytes_of(cells, &mut state);
-    if !well_formed(&state) {
-        return refusal_number(Refusal::BadState);
+    if s.len() != STATE_LENGTH {
+        return Err(Unread::BadState);
     }
-    bytes_of(cells, s);
-    0
+    let mut course = Course::new();
+    course.read(text)?;
+    let mut state = [0u8; STATE_LENGTH];
+    bytes_of(&course.cells, &mut state);
+    if !well_formed(&state) {
+        return Err(Unread::BadState);
+    }
+    s.copy_from_slice(&state);
+    Ok(())
 }
 
 // "−19 first for a destination of another length, last for the state read"
 pub fn read_hex(text: &[u8], s: &mut [u8]) -> i32
     ensures { (record { reply = result; buffer = s.new }) ≡ read_outcome text.now s.old }
 {
-    if s.len() != STATE_LENGTH {
-        return refusal_number(Refusal::BadState);
-    }
-    let mut cells = [0u16; STATE_LENGTH];
-    let a = read_text(text, &mut cells);
-    match a {
-        Reading::Not(f, _) => fault_number(f),
-        Reading::Whole(_) => store_given(&cells, s),
+    match read_state(text, s) {
+        Ok(()) => 0,
+        Err(unread) => number_of(unread),
     }
 }
 
@@ -52,10 +50,7 @@ pub fn read_hex(text: &[u8], s: &mut [u8]) -> i32
 pub fn lines_taken(text: &[u8]) -> usize
     ensures { result ≡ taken_of text.now }
 {
-    let mut cells = [0u16; STATE_LENGTH];
-    let a = read_text(text, &mut cells);
-    match a {
-        Reading::Not(_, n) => n,
-        Reading::Whole(n) => n,
-    }
+    let mut course = Course::new();
+    let _ = course.read(text);
+    course.taken
 }

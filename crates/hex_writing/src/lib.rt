@@ -15,6 +15,7 @@ use words::refusals::{Refusal, refusal_number};
 const NO_ROOM: i32 = -34;
 
 // "Writing: −19, then −34 output under 48,076 bytes; bytes past these stay."
+// The answer is the number that C sees: each of the two refusals ends the call at once, so a Result would be made only to be taken apart here.
 pub fn write_hex(s: &[u8], text: &mut [u8]) -> i32
     ensures { (record { reply = result; text = text.new }) ≡ write_outcome s.now text.old }
 {

@@ -1,9 +1,9 @@
 // The text of a state: the address record, 1,092 data records of 16 bytes in rising order, the end record.
-ghost use Rattle.std.specs.Prelude.{true, false, [], ◌∷◌, ◌++◌, ◌≡◌, ◌+◌, ◌*◌, ◌%◌, ◌<◌, ◌≤◌, drop, length};
+ghost use Rattle.std.specs.Prelude.{true, false, [], ◌∷◌, ◌++◌, ◌≡◌, ◌+◌, ◌*◌, ◌/◌, ◌%◌, ◌<◌, ◌≤◌, drop, length};
 ghost use Rattle.words.specs.Sizes.{state_length};
 ghost use Rattle.state.specs.State.{splice};
 ghost use Rattle.intel_hex.specs.Pairs.{spelled};
-ghost use Rattle.intel_hex.specs.Marks.{end_line, half, piece_count, text_length, upper_line};
+ghost use Rattle.intel_hex.specs.Marks.{end_line, piece_count, text_length, upper_line};
 ghost use Rattle.intel_hex.specs.Records.{fields, record_of, sum_byte, sum_of};
 ghost use Rattle.intel_hex.specs.Writing.{data_lines, line_of, sixteens, written};
 
@@ -30,16 +30,17 @@ const UPPER_LINE: usize = END_LINE + 2 * UPPER_LENGTH;
 
 const DATA_LINE: usize = END_LINE + 2 * PIECE_LENGTH;
 
-// Where a line without data has its line feed.
-const FEED_PLACE: usize = END_LINE - 1;
-
 // Where the end record begins.
 const END_AT: usize = TEXT_LENGTH - END_LINE;
 
-// "for 0x2000": the two bytes of the address record's data.
-const UPPER_HIGH: u8 = (STATE_UPPER / 256) as u8;
-
-const UPPER_LOW: u8 = (STATE_UPPER % 256) as u8;
+// A record as it is to be spelled. A length byte says how many bytes of data it has.
+#[derive(Clone, Copy)]
+struct Record<'a> {
+    record_type: u8,
+    address: u16,
+    bytes: &'a [u8],
+    ghost short: { length bytes.now < 256 },
+}
 
 // Two digits.
 fn put_byte(part: &mut [u8], at: usize, b: u8)
@@ -54,57 +55,65 @@ fn put_bytes(part: &mut [u8], at: usize, bytes: &[u8])
     requires { at + 2 * length bytes.now ≤ length part.old }
     ensures { part.new ≡ splice at (spelled true bytes.now) part.old }
 {
-    let mut i: usize = 0;
-    while i < bytes.len() {
-        put_byte(part, at + 2 * i, bytes[i]);
-        i += 1;
+    for (i, b) in bytes.iter().enumerate() {
+        put_byte(part, at + 2 * i, *b);
     }
 }
 
 // Modulo 256.
-fn sum_of(bytes: &[u8]) -> u32
+fn sum_of(bytes: &[u8]) -> u8
     ensures { result ≡ sum_of bytes.now % 256 }
 {
-    let mut sum: u32 = 0;
-    let mut i: usize = 0;
-    while i < bytes.len() {
-        sum = (sum + bytes[i] as u32) % 256;
-        i += 1;
+    let mut sum: u8 = 0;
+    for b in bytes {
+        sum = sum.wrapping_add(*b);
     }
     sum
 }
 
-// The byte that brings a record's sum to a multiple of 256.
-fn check_byte(t: u8, address: u32, bytes: &[u8]) -> u8
-    requires { (length bytes.now < 256) × (address < half) }
-    ensures { result ≡ sum_byte (fields t address bytes.now) }
-{
-    let sum = bytes.len() as u32 + address / 256 + address % 256 + t as u32 + sum_of(bytes);
-    ((256 - sum % 256) % 256) as u8
-}
+impl Record<'_> {
+    // The bytes in front of the data.
+    fn head(&self) -> [u8; DATA_AT]
+        ensures { result ≡ length self.now.bytes.now ∷ self.now.address / 256 ∷ self.now.address % 256 ∷ self.now.record_type ∷ [] }
+    {
+        let [high, low] = self.address.to_be_bytes();
+        [self.bytes.len() as u8, high, low, self.record_type]
+    }
 
-// A record in the part of the text that is its line.
-fn put_record(part: &mut [u8], t: u8, address: u32, bytes: &[u8])
-    requires { (length part.old ≡ end_line + 2 * length bytes.now) × (length bytes.now < 256) × (address < half) }
-    ensures { part.new ≡ line_of true false (record_of t address bytes.now) }
-{
-    let n = bytes.len();
-    let check = check_byte(t, address, bytes);
-    let head = [n as u8, (address / 256) as u8, (address % 256) as u8, t];
-    part[0] = b':';
-    put_bytes(part, HEAD_PLACE, &head);
-    put_bytes(part, DATA_PLACE, bytes);
-    put_byte(part, DATA_PLACE + 2 * n, check);
-    part[FEED_PLACE + 2 * n] = b'\n';
-}
+    // The byte that brings the sum to a multiple of 256.
+    fn check_byte(&self) -> u8
+        ensures { result ≡ sum_byte (fields self.now.record_type self.now.address self.now.bytes.now) }
+    {
+        let head = self.head();
+        sum_of(&head)
+            .wrapping_add(sum_of(self.bytes))
+            .wrapping_neg()
+    }
 
-// The same at a place of the text: its part is lent on.
-fn put_line(text: &mut [u8], at: usize, t: u8, address: u32, bytes: &[u8])
-    requires { (at + end_line + 2 * length bytes.now ≤ length text.old) × (length bytes.now < 256) × (address < half) }
-    ensures { text.new ≡ splice at (line_of true false (record_of t address bytes.now)) text.old }
-{
-    let end = at + (END_LINE + 2 * bytes.len());
-    put_record(&mut text[at..end], t, address, bytes);
+    // The part of the text that is the record's line.
+    #[inline(always)]
+    fn put(&self, part: &mut [u8])
+        requires { length part.old ≡ end_line + 2 * length self.now.bytes.now }
+        ensures { part.new ≡ line_of true false (record_of self.now.record_type self.now.address self.now.bytes.now) }
+    {
+        let check = self.check_byte();
+        let behind = DATA_PLACE + 2 * self.bytes.len();
+        part[0] = b':';
+        put_bytes(part, HEAD_PLACE, &self.head());
+        put_bytes(part, DATA_PLACE, self.bytes);
+        put_byte(part, behind, check);
+        part[behind + 2] = b'\n';
+    }
+
+    // The same at a place of the text: its part is lent on. Inlined, so that the loops of a data record are compiled for its 16 bytes.
+    #[inline(always)]
+    fn put_at(&self, text: &mut [u8], at: usize)
+        requires { at + end_line + 2 * length self.now.bytes.now ≤ length text.old }
+        ensures { text.new ≡ splice at (line_of true false (record_of self.now.record_type self.now.address self.now.bytes.now)) text.old }
+    {
+        let end = at + (END_LINE + 2 * self.bytes.len());
+        self.put(&mut text[at..end]);
+    }
 }
 
 // The data records, behind the address record.
@@ -112,17 +121,14 @@ fn put_data(s: &[u8], text: &mut [u8])
     requires { (length s.now ≡ state_length) × (text_length ≤ length text.old) }
     ensures { text.new ≡ splice upper_line (data_lines true false 0 (sixteens piece_count s.now)) text.old }
 {
-    let mut k: usize = 0;
-    while k < PIECE_COUNT {
+    for k in 0..PIECE_COUNT {
         let from = PIECE_LENGTH * k;
-        put_line(
-            text,
-            UPPER_LINE + DATA_LINE * k,
-            DATA_TYPE,
-            from as u32,
-            &s[from..from + PIECE_LENGTH],
-        );
-        k += 1;
+        let piece = Record {
+            record_type: DATA_TYPE,
+            address: from as u16,
+            bytes: &s[from..from + PIECE_LENGTH],
+        };
+        piece.put_at(text, UPPER_LINE + DATA_LINE * k);
     }
 }
 
@@ -130,8 +136,17 @@ pub(crate) fn write_text(s: &[u8], text: &mut [u8])
     requires { (length s.now ≡ state_length) × (text_length ≤ length text.old) }
     ensures { text.new ≡ written s.now ++ drop text_length text.old }
 {
-    let up = [UPPER_HIGH, UPPER_LOW];
-    put_line(text, 0, UPPER_TYPE, 0, &up);
+    let upper = Record {
+        record_type: UPPER_TYPE,
+        address: 0,
+        bytes: &STATE_UPPER.to_be_bytes(),
+    };
+    upper.put_at(text, 0);
     put_data(s, text);
-    put_line(text, END_AT, END_TYPE, 0, &s[0..0]);
+    let end = Record {
+        record_type: END_TYPE,
+        address: 0,
+        bytes: &[],
+    };
+    end.put_at(text, END_AT);
 }

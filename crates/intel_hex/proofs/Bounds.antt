@@ -5,7 +5,7 @@ use mathlib.Core.Path.{◌≡◌, refl}
 use Prim.Native.Nat.{ℕ, zero, suc, ◌+◌, ◌%◌, ◌<◌, ◌≤◌}
 use native.Mathlib.Omega.{arith}
 use lib.Dec.{eqb}
-use lib.ListN.{get_or, length, take, drop, replicate}
+use lib.ListN.{length, take, drop, replicate}
 use borrow.Author.Tests.{ltb-true}
 use Rattle.words.proofs.Tests.{and_left, and_right}
 use Rattle.words.specs.Sizes.{state_length}
@@ -17,7 +17,7 @@ use Rattle.intel_hex.specs.Pairs.{all_hex, pairs}
 use Rattle.intel_hex.specs.Lines.{body_of, lines_of, readable, spelled_by, spells}
 use Rattle.intel_hex.specs.Reading.{Given, Result, Step, bad, data_step, end_step, faulty, filled, full, given, gives, is_open, line_step, nothing_more, on, over, read_lines, read_text, record_step, start, unset}
 use Rattle.intel_hex.specs.Records.{data_in, length_in, sum_of, type_in}
-use Rattle.intel_hex.proofs.EveryLaws.{every_at, every_drop, every_join, every_take}
+use Rattle.intel_hex.proofs.EveryLaws.{every_drop, every_join, every_take}
 
 bytes_pairs : (l : List ℕ) → all_hex l ≡ true → AllBytes (pairs l)
 unfolding all_digits pairs
@@ -112,7 +112,3 @@ lines_bytes g (l ∷ ls) h = go (line_step g l) refl (line_bytes g h l) (λ f k.
 pub read_bytes : (t b : List ℕ) → read_text t ≡ gives b → AllBytes b
 unfolding read_text
 read_bytes t b e = rw e at (lines_bytes (start state_length) (lines_of t) (cells_unset state_length))
-
--- ---- a byte of a record
-pub spelled_byte : (l : List ℕ) → spells l ≡ true → (k : ℕ) → get_or (spelled_by l) k 0 < 256
-spelled_byte l s k = every_at (λ b. b < 256) (omega arith) (spelled_by l) (bytes_spelled l s) k

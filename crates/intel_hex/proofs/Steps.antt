@@ -1,16 +1,16 @@
 -- A record's step as the code takes it, and the lines of a text one after the other.
 use mathlib.Core.Bool.{true, false}
 use mathlib.Core.List.{List, ◌∷◌}
-use mathlib.Core.Path.{◌≡◌, ◌∙◌}
-use Prim.Native.Nat.{ℕ, suc, ◌+◌, ◌-◌, ◌*◌, ◌<◌, ◌≤◌}
+use mathlib.Core.Path.{◌≡◌}
+use Prim.Native.Nat.{ℕ, suc, ◌+◌, ◌*◌, ◌<◌, ◌≤◌}
 use native.Mathlib.Omega.{arith}
 use lib.ListN.{length, take, drop, drop_of_length-le, length-drop}
-use lib.Seq.{drop-drop, length-take-le}
+use lib.Seq.{length-take-le}
 use borrow.Author.Tests.{eqb-true}
 use Rattle.words.proofs.Tests.{and_left}
 use Rattle.words.specs.Sizes.{state_length}
 use Rattle.state.specs.State.{splice}
-use Rattle.intel_hex.specs.Lines.{line_length, lines_of}
+use Rattle.intel_hex.specs.Lines.{lines_of}
 use Rattle.intel_hex.specs.Marks.{frame_length, half, state_upper}
 use Rattle.intel_hex.specs.Names.{Fault, Address, End}
 use Rattle.intel_hex.specs.Reading.{Given, Step, bad, data_step, faulty, filled, gives, line_step, lines_taken, nothing_more, on, over, read_lines, vacant}
@@ -51,11 +51,6 @@ module _ (r : List ℕ) (w : whole r ≡ true) where
     data_placed u e h v = rw (e, data_length, inside c l (address_in r) (length_in r) h, v, from_start (address_in r))
 
 -- ---- the lines
-pub line_and_rest : (t : List ℕ) (i e : ℕ) → i < length t → e ≡ i + line_length (drop i t) → lines_of (drop i t) ≡ take (e - i) (drop i t) ∷ lines_of (drop e t)
-line_and_rest t i e h q =
-    let n : e - i ≡ line_length (drop i t) = omega arith in
-    rw (n, q) (lines_at t i h ∙ rw (drop-drop (line_length (drop i t)) i t))
-
 module _ (g : Given) (l : List ℕ) (ls : List (List ℕ)) where
   pub line_on : (h : Given) → line_step g l ≡ on h → read_lines g (l ∷ ls) ≡ read_lines h ls
   unfolding read_lines

@@ -13,7 +13,7 @@ pub const DATA_AT: usize = 4;
 pub const FRAME_LENGTH: usize = DATA_AT + 1;
 
 // "an extended linear address record (type 04) for 0x2000": the upper half of the state's addresses, the data of that record.
-pub const STATE_UPPER: u32 = 0x2000;
+pub const STATE_UPPER: u16 = 0x2000;
 
 pub const UPPER_LENGTH: usize = 2;
 

@@ -2,7 +2,6 @@
 #![tactic(auto)]
 
 ghost use Rattle.std.specs.Prelude.{◌≡◌, true};
-ghost use Rattle.words.specs.Answers.{told_plan};
 ghost use Rattle.words.specs.Fields.{call_number};
 ghost use Rattle.state.specs.Read.{read};
 ghost use Rattle.rules.specs.WellFormed.{wf};
@@ -26,7 +25,7 @@ use judging_tables::delegate::judge_delegate;
 use judging_tables::delete::judge_delete_table;
 use judging_tables::freeze::judge_freeze;
 use judging_tables::remove::judge_remove;
-use words::answers::{Plan, SlotAnswer, why_slot};
+use words::actions::Action;
 use words::calls::{
     CHANGE_DIRECTORY, CHANGE_TABLE, CONSTRUCT, CREATE_DIRECTORY, CREATE_ENDPOINT, CREATE_PROCESS,
     CREATE_TABLE, DELEGATE, DELETE_DIRECTORY, DELETE_ENDPOINT, DELETE_PROCESS, DELETE_TABLE,
@@ -37,9 +36,9 @@ use words::numbers::Slot;
 use words::refusals::Refusal;
 
 // "N[5:0] is the call number"; −17 where it is not 1..20.
-fn judge_call(s: &[u8], t: Slot, w: Words) -> Plan
+fn judge_call(s: &[u8], t: Slot, w: Words) -> Result<Action, Refusal>
     requires { wf (read s.now) ≡ true }
-    ensures { told_plan result ≡ call_of (call_number w) (read s.now) t w }
+    ensures { result ≡ call_of (call_number w) (read s.now) t w }
 {
     let n = call_number(w);
     match n {
@@ -63,18 +62,15 @@ fn judge_call(s: &[u8], t: Slot, w: Words) -> Plan
         SEND => judge_send(s, t, w),
         RECEIVE => judge_receive(s, t, w),
         FUNCTION => judge_function(s, t, w),
-        _ => Plan::Refused(Refusal::BadCall),
+        _ => Err(Refusal::BadCall),
     }
 }
 
 // "caller is not a live process's slot"
-pub fn judge(s: &[u8], caller: u32, w: Words) -> Plan
+pub fn judge(s: &[u8], caller: u32, w: Words) -> Result<Action, Refusal>
     requires { wf (read s.now) ≡ true }
-    ensures { told_plan result ≡ plan (read s.now) caller w }
+    ensures { result ≡ plan (read s.now) caller w }
 {
-    let a = caller_table(s, caller);
-    let SlotAnswer::Found(t) = a else {
-        return Plan::Refused(why_slot(a));
-    };
+    let t = caller_table(s, caller)?;
     judge_call(s, t, w)
 }

@@ -4,4 +4,4 @@ pub use Rattle.words.specs.declared.refusals.Refusal.TheVariants.{CapRefcnt}
 pub use Rattle.words.specs.declared.capabilities.Capability.{Capability}
 pub use Rattle.words.specs.declared.actions.Spot.{Spot}
 pub use Rattle.words.specs.declared.capabilities.Frost.{Frost}
-pub use Rattle.words.specs.declared.capabilities.Origin.{Origin}
+pub use Rattle.words.specs.Names.{Origin}

@@ -6,19 +6,18 @@ ghost use Rattle.state.specs.Read.{place_of, read};
 ghost use Rattle.state.specs.State.{place_number};
 ghost use Rattle.rules.specs.Places.{has_children, is_child_of};
 
-use reading::bytes::{slots_from, word_at};
-use reading::tables::entries_in;
+use reading::bytes::word_at;
+use reading::tables::{entries_in, table_slots};
 use words::actions::Spot;
 use words::layout::{BLANK, FUNCTION_KIND, PARENT_AT};
 use words::numbers::Slot;
-use words::sizes::{ENTRY_SIZE, ENTRY_SIZE_U32, SLOT_COUNT_U32, SLOT_REST_U32, SLOT_SIZE_U32};
+use words::sizes::{ENTRY_SIZE, SLOT_COUNT_U32};
 
 // The number of a place, by which a child names its parent; as wide as the sum may be, since a place is any word.
 fn place_number(p: Spot) -> u64
     ensures { result ≡ place_number p }
 {
-    let t = p.table;
-    2 * (t.0 as u64) + (p.entry as u64)
+    2 * (p.table.0 as u64) + p.entry as u64
 }
 
 pub fn slot_numbered(k: u32) -> Slot
@@ -26,15 +25,6 @@ pub fn slot_numbered(k: u32) -> Slot
     ensures { result ≡ slot k }
 {
     Slot(k as u8)
-}
-
-// "hands on just its slots": those of a table with so many entries.
-fn table_slots(s: &[u8], t: Slot, entries: u32) -> &[u8]
-    requires { entries ≤ 255 }
-    ensures { result.now ≡ take (slot_size * slots_for (entry_size * entries)) (drop (slot_size * t.0) s.now) }
-{
-    let slots = (ENTRY_SIZE_U32 * entries + SLOT_REST_U32) / SLOT_SIZE_U32;
-    slots_from(s, t, slots as u16)
 }
 
 // Entry e of the table whose slots are the part: its parent's word is the parent's place number and 1, and its kind's is 1 to 6.

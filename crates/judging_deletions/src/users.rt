@@ -17,12 +17,10 @@ fn is_user(s: &[u8], k: Slot, o: Slot) -> bool
     if tag_at(s, k) != PROCESS_TAG {
         return false;
     }
-    let t = table_named(s, k);
-    if t.0 == o.0 {
+    if table_named(s, k) == o {
         return true;
     }
-    let d = directory_named(s, k);
-    d.0 == o.0
+    directory_named(s, k) == o
 }
 
 pub(crate) fn has_users(s: &[u8], o: Slot) -> bool

@@ -8,9 +8,10 @@ ghost use Rattle.rules.specs.WellFormed.{geometric};
 use judging_numbers::lookups::has_flag;
 use words::capabilities::Geometry;
 use words::fields::{Words, number_order, q0};
+use words::orders::is_multiple;
 use words::sizes::{
     HEADER_SIZE_U32, LEAST_NUMBER_ORDER, LEAST_SIZE_ORDER, MOST_NUMBER_ORDER, MOST_ORDER_SUM,
-    MOST_SIZE_ORDER, POSITION_SIZE_U32, SLOT_REST_U32, SLOT_SIZE_U32,
+    MOST_SIZE_ORDER, POSITION_SIZE_U32, slots_for,
 };
 
 // "start with top mark in bit 0"
@@ -20,24 +21,15 @@ const TOP_MARK: u32 = 0;
 pub(crate) fn shape_asked(w: Words) -> Geometry
     ensures { result ≡ shape_asked w }
 {
-    let start = w.p3 / 2 * 2;
     Geometry {
         size: q0(w),
         number: number_order(w),
         top: has_flag(w.p3, TOP_MARK),
-        start,
+        start: w.p3 / 2 * 2,
     }
 }
 
-// Whether x is a multiple of 2^k. The power of 32 does not fit a word.
-fn is_multiple(x: u32, k: u32) -> bool
-    requires { k ≤ most_order_sum }
-    ensures { result ≡ eqb (x % 2 ^ k) 0 }
-{
-    let power: u64 = 1 << k;
-    x as u64 % power == 0
-}
-
+// The check of a directory asks the same of a shape that stands: `reading`, whose code both rest on, does not rest on the rules.
 pub(crate) fn is_geometric(g: Geometry) -> bool
     ensures { result ≡ geometric g }
 {
@@ -67,5 +59,5 @@ pub(crate) fn slots_taken(k: u32) -> u32
     ensures { (result ≡ slots_for (header_size + position_size * 2 ^ k)) × (1 ≤ result) × (result ≤ 64) }
 {
     let positions: u32 = 1 << k;
-    (HEADER_SIZE_U32 + POSITION_SIZE_U32 * positions + SLOT_REST_U32) / SLOT_SIZE_U32
+    slots_for(HEADER_SIZE_U32 + POSITION_SIZE_U32 * positions)
 }

@@ -7,27 +7,11 @@ ghost use Rattle.rules.specs.Calls.{hangs_somewhere, has_child_directory, is_chi
 
 use judging_deletions::children::slot_numbered;
 use judging_pages::positions::is_child;
-use reading::bytes::slots_from;
-use reading::directories::positions_in;
+use reading::directories::{directory_slots, positions_in};
 use reading::positions::position_of;
 use words::capabilities::Position;
 use words::numbers::Slot;
-use words::sizes::{
-    HEADER_SIZE, HEADER_SIZE_U32, POSITION_SIZE, POSITION_SIZE_U32, SLOT_COUNT_U32, SLOT_REST_U32,
-    SLOT_SIZE_U32,
-};
-
-// "hands on just its slots": those of a directory with so many positions.
-fn directory_slots(s: &[u8], d: Slot, positions: u32) -> &[u8]
-    requires { positions ≤ 256 }
-    ensures { result.now ≡ take (slot_size * slots_for (header_size + position_size * positions)) (drop (slot_size * d.0) s.now) }
-{
-    slots_from(
-        s,
-        d,
-        ((HEADER_SIZE_U32 + POSITION_SIZE_U32 * positions + SLOT_REST_U32) / SLOT_SIZE_U32) as u16,
-    )
-}
+use words::sizes::{HEADER_SIZE, POSITION_SIZE, SLOT_COUNT_U32};
 
 // Position i of the directory whose slots are the part.
 fn position_in(part: &[u8], i: u32) -> Position
@@ -48,9 +32,8 @@ fn is_child_at(d: Slot, x: Position) -> bool
     ensures { result ≡ is_child_at d x }
 {
     match x {
-        Position::Empty => false,
-        Position::Page { frame: _, flags: _ } => false,
-        Position::Child { object, flags: _ } => object.0 == d.0,
+        Position::Child { object, .. } => object == d,
+        Position::Empty | Position::Page { .. } => false,
     }
 }
 

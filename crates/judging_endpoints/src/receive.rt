@@ -1,7 +1,6 @@
 // 19 receive: P1 endpoint, flag of its option; P2 option 0..3 = BS, BM, NS, NM. "−15 before the flag, after the kind".
-ghost use Rattle.std.specs.Prelude.{◌≡◌, min, eqb};
+ghost use Rattle.std.specs.Prelude.{◌≡◌, eqb};
 ghost use Rattle.words.specs.Tests.{◌or◌};
-ghost use Rattle.words.specs.Answers.{told_plan};
 ghost use Rattle.state.specs.Read.{read};
 ghost use Rattle.rules.specs.Calls;
 ghost use Rattle.judging_endpoints.specs.Taken;
@@ -10,7 +9,6 @@ use judging_numbers::kinds::as_endpoint;
 use judging_numbers::lookups::{has_flag, look_up};
 use reading::endpoints::count_at;
 use words::actions::Action;
-use words::answers::{Plan, RightAnswer, SlotAnswer, why_right, why_slot};
 use words::calls::{OPTION_NM, OPTION_NS};
 use words::fields::{Words, number_in_word};
 use words::flag_bits::E_RCV_BS;
@@ -38,47 +36,30 @@ fn most(o: u32) -> u32
     MOST_TAKEN
 }
 
-fn least(a: u32, b: u32) -> u32
-    ensures { result ≡ min a b }
-{
-    if a <= b {
-        return a;
-    }
-    b
-}
-
 // What is taken of the signals at an endpoint; "the rest stays".
-fn taken(s: &[u8], e: Slot, o: u32) -> Plan
-    ensures { told_plan result ≡ Taken.taken (read s.now) e o }
+fn taken(s: &[u8], e: Slot, o: u32) -> Result<Action, Refusal>
+    ensures { result ≡ Taken.taken (read s.now) e o }
 {
-    let n = count_at(s, e);
-    let waiting = n.0;
-    let m = least(waiting, most(o));
-    Plan::Do(Action::SetCount {
+    let waiting = count_at(s, e).0;
+    let m = waiting.min(most(o));
+    Ok(Action::SetCount {
         endpoint: e,
         count: Count(waiting - m),
         taken: Count(m),
     })
 }
 
-pub fn judge_receive(s: &[u8], t: Slot, w: Words) -> Plan
-    ensures { told_plan result ≡ Calls.receive (read s.now) t w }
+pub fn judge_receive(s: &[u8], t: Slot, w: Words) -> Result<Action, Refusal>
+    ensures { result ≡ Calls.receive (read s.now) t w }
 {
-    let l = look_up(s, t, number_in_word(w.p1));
-    let RightAnswer::Found(c) = l else {
-        return Plan::Refused(why_right(l));
-    };
-    let k = c.kind;
-    let a = as_endpoint(k);
-    let SlotAnswer::Found(e) = a else {
-        return Plan::Refused(why_slot(a));
-    };
+    let c = look_up(s, t, number_in_word(w.p1))?;
+    let e = as_endpoint(c.kind)?;
     let o = w.p2;
     if !is_option(o) {
-        return Plan::Refused(Refusal::SivAct);
+        return Err(Refusal::SivAct);
     }
     if !has_flag(c.flags, E_RCV_BS + o) {
-        return Plan::Refused(Refusal::CapFlag);
+        return Err(Refusal::CapFlag);
     }
     taken(s, e, o)
 }

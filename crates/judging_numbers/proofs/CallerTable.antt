@@ -13,11 +13,11 @@ use Rattle.state.specs.Read.{read}
 use Rattle.state.specs.State.{Object, body, directory, endpoint, free, obj_at, process, table, table_named}
 use Rattle.words.specs.Fields.{slot}
 use Rattle.words.specs.Sizes.{slot_count}
-use Rattle.words.specs.Try.{◌>>=◌, ◌>>◌, need, no!, ok! }
+use Rattle.words.specs.Try.{◌>>=◌, ◌>>◌, need, Err, Ok}
 use Rattle.judging_numbers.specs.Callers.{caller_slot}
 use Rattle.judging_numbers.specs.Names.{BadCaller}
 
-pub caller_known : (o : Object) → tag_of o ≡ 4 → caller_table o ≡ ok! (table_named o)
+pub caller_known : (o : Object) → tag_of o ≡ 4 → caller_table o ≡ Ok (table_named o)
 unfolding caller_table
 caller_known free h = absurd (omega arith)
 caller_known (body f) h = absurd (omega arith)
@@ -26,7 +26,7 @@ caller_known (directory g es) h = absurd (omega arith)
 caller_known (process t d) h = refl
 caller_known (endpoint c b) h = absurd (omega arith)
 
-pub caller_none : (o : Object) → (tag_of o ≡ 4 → ⊥) → caller_table o ≡ no! BadCaller
+pub caller_none : (o : Object) → (tag_of o ≡ 4 → ⊥) → caller_table o ≡ Err BadCaller
 unfolding caller_table
 caller_none free h = refl
 caller_none (body f) h = refl

@@ -2,10 +2,10 @@
 use Rattle.std.specs.Prelude.{ℕ, ltb}
 use Rattle.words.specs.Fields.{slot}
 use Rattle.words.specs.Sizes.{slot_count}
-use Rattle.words.specs.Try.{◌>>◌, Try, need, ok! }
+use Rattle.words.specs.Try.{◌>>◌, Try, need, Ok}
 use Rattle.judging_numbers.specs.Names.{BadCaller, Slot}
 
 unfoldable pub caller_slot : ℕ → Try Slot
 caller_slot caller = do
   need (ltb caller slot_count) BadCaller
-  ok! (slot caller)
+  Ok (slot caller)

@@ -1,127 +1,81 @@
 // A capability argument: the right that its number finds, of the kind asked for, with the flag asked for. A refusal of a step is
 // the refusal of the argument.
 ghost use Rattle.std.specs.Prelude.{◌≡◌, ◌<◌};
-ghost use Rattle.words.specs.Answers.{told_slot, told_span, told_stretch};
+ghost use Rattle.words.specs.declared.capabilities.Kind.{Kind};
+ghost use Rattle.words.specs.Try.{Try};
 ghost use Rattle.state.specs.Read.{read};
-ghost use Rattle.rules.specs.Numbers.{directory_arg, endpoint_arg, memory_arg, process_arg, table_arg, top_arg};
+ghost use Rattle.rules.specs.Numbers.{argument, directory_arg, endpoint_arg, memory_arg, process_arg, table_arg, top_arg};
 
 use crate::kinds::{as_directory, as_endpoint, as_memory, as_process, as_table};
 use crate::lookups::{has_flag, look_up};
 use reading::directories::shape_at;
-use words::answers::{
-    RightAnswer, SlotAnswer, SpanAnswer, StretchAnswer, why_right, why_slot, why_span, why_stretch,
-};
+use words::capabilities::{Kind, Span, Stretch};
 use words::numbers::{CapabilityNumber, Slot};
 use words::refusals::Refusal;
 
-pub fn table_arg(s: &[u8], t: Slot, v: CapabilityNumber, f: u32) -> SlotAnswer
-    requires { f < 32 }
-    ensures { told_slot result ≡ table_arg (read s.now) t v.0 f }
+// The kind, then FLAG; `kind` makes of a right's kind what the call asks for.
+fn argument<A: Drop, F: FnOnce(Kind) -> Result<A, Refusal>>(
+    s: &[u8],
+    t: Slot,
+    v: CapabilityNumber,
+    f: u32,
+    kind: F,
+) -> Result<A, Refusal>
+    requires flag { f < 32 }
+    requires takes_any { F.IsAlwaysCallable kind }
+    ensures { (rule : Kind → Try A) → ((k : Kind) (r : Try A) → F.post kind k r → r ≡ rule k) → result ≡ argument rule (read s.now) t v.0 f }
 {
-    let l = look_up(s, t, v);
-    let RightAnswer::Found(c) = l else {
-        return SlotAnswer::Refused(why_right(l));
-    };
-    let k = c.kind;
-    let a = as_table(k);
-    let SlotAnswer::Found(o) = a else {
-        return SlotAnswer::Refused(why_slot(a));
-    };
+    let c = look_up(s, t, v)?;
+    let a = kind(c.kind)?;
     if !has_flag(c.flags, f) {
-        return SlotAnswer::Refused(Refusal::CapFlag);
+        return Err(Refusal::CapFlag);
     }
-    SlotAnswer::Found(o)
+    Ok(a)
 }
 
-pub fn directory_arg(s: &[u8], t: Slot, v: CapabilityNumber, f: u32) -> SpanAnswer
+pub fn table_arg(s: &[u8], t: Slot, v: CapabilityNumber, f: u32) -> Result<Slot, Refusal>
     requires { f < 32 }
-    ensures { told_span result ≡ directory_arg (read s.now) t v.0 f }
+    ensures { result ≡ table_arg (read s.now) t v.0 f }
 {
-    let l = look_up(s, t, v);
-    let RightAnswer::Found(c) = l else {
-        return SpanAnswer::Refused(why_right(l));
-    };
-    let k = c.kind;
-    let a = as_directory(k);
-    let SpanAnswer::Found(d) = a else {
-        return SpanAnswer::Refused(why_span(a));
-    };
-    if !has_flag(c.flags, f) {
-        return SpanAnswer::Refused(Refusal::CapFlag);
-    }
-    SpanAnswer::Found(d)
+    argument(s, t, v, f, as_table)
 }
 
-pub fn memory_arg(s: &[u8], t: Slot, v: CapabilityNumber, f: u32) -> StretchAnswer
+pub fn directory_arg(s: &[u8], t: Slot, v: CapabilityNumber, f: u32) -> Result<Span, Refusal>
     requires { f < 32 }
-    ensures { told_stretch result ≡ memory_arg (read s.now) t v.0 f }
+    ensures { result ≡ directory_arg (read s.now) t v.0 f }
 {
-    let l = look_up(s, t, v);
-    let RightAnswer::Found(c) = l else {
-        return StretchAnswer::Refused(why_right(l));
-    };
-    let k = c.kind;
-    let a = as_memory(k);
-    let StretchAnswer::Found(m) = a else {
-        return StretchAnswer::Refused(why_stretch(a));
-    };
-    if !has_flag(c.flags, f) {
-        return StretchAnswer::Refused(Refusal::CapFlag);
-    }
-    StretchAnswer::Found(m)
+    argument(s, t, v, f, as_directory)
 }
 
-pub fn process_arg(s: &[u8], t: Slot, v: CapabilityNumber, f: u32) -> SlotAnswer
+pub fn memory_arg(s: &[u8], t: Slot, v: CapabilityNumber, f: u32) -> Result<Stretch, Refusal>
     requires { f < 32 }
-    ensures { told_slot result ≡ process_arg (read s.now) t v.0 f }
+    ensures { result ≡ memory_arg (read s.now) t v.0 f }
 {
-    let l = look_up(s, t, v);
-    let RightAnswer::Found(c) = l else {
-        return SlotAnswer::Refused(why_right(l));
-    };
-    let k = c.kind;
-    let a = as_process(k);
-    let SlotAnswer::Found(o) = a else {
-        return SlotAnswer::Refused(why_slot(a));
-    };
-    if !has_flag(c.flags, f) {
-        return SlotAnswer::Refused(Refusal::CapFlag);
-    }
-    SlotAnswer::Found(o)
+    argument(s, t, v, f, as_memory)
 }
 
-pub fn endpoint_arg(s: &[u8], t: Slot, v: CapabilityNumber, f: u32) -> SlotAnswer
+pub fn process_arg(s: &[u8], t: Slot, v: CapabilityNumber, f: u32) -> Result<Slot, Refusal>
     requires { f < 32 }
-    ensures { told_slot result ≡ endpoint_arg (read s.now) t v.0 f }
+    ensures { result ≡ process_arg (read s.now) t v.0 f }
 {
-    let l = look_up(s, t, v);
-    let RightAnswer::Found(c) = l else {
-        return SlotAnswer::Refused(why_right(l));
-    };
-    let k = c.kind;
-    let a = as_endpoint(k);
-    let SlotAnswer::Found(o) = a else {
-        return SlotAnswer::Refused(why_slot(a));
-    };
-    if !has_flag(c.flags, f) {
-        return SlotAnswer::Refused(Refusal::CapFlag);
-    }
-    SlotAnswer::Found(o)
+    argument(s, t, v, f, as_process)
+}
+
+pub fn endpoint_arg(s: &[u8], t: Slot, v: CapabilityNumber, f: u32) -> Result<Slot, Refusal>
+    requires { f < 32 }
+    ensures { result ≡ endpoint_arg (read s.now) t v.0 f }
+{
+    argument(s, t, v, f, as_endpoint)
 }
 
 // "A process's directory must be top, else PGT_HW, checked after that argument".
-pub fn top_arg(s: &[u8], t: Slot, v: CapabilityNumber, f: u32) -> SlotAnswer
+pub fn top_arg(s: &[u8], t: Slot, v: CapabilityNumber, f: u32) -> Result<Slot, Refusal>
     requires { f < 32 }
-    ensures { told_slot result ≡ top_arg (read s.now) t v.0 f }
+    ensures { result ≡ top_arg (read s.now) t v.0 f }
 {
-    let a = directory_arg(s, t, v, f);
-    let SpanAnswer::Found(d) = a else {
-        return SlotAnswer::Refused(why_span(a));
-    };
-    let o = d.object;
-    let g = shape_at(s, o);
-    if !g.top {
-        return SlotAnswer::Refused(Refusal::PgtHw);
+    let object = directory_arg(s, t, v, f)?.object;
+    if !shape_at(s, object).top {
+        return Err(Refusal::PgtHw);
     }
-    SlotAnswer::Found(o)
+    Ok(object)
 }

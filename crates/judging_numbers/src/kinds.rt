@@ -1,120 +1,100 @@
 // TYPE, "other kind": what a right of the kind asked for gives, and the refusal of every other. The kind is classified here, so that
-// a lookup takes what it gives by `let .. else`.
+// a lookup takes what it gives by `?`.
 ghost use Rattle.std.specs.Prelude.{◌≡◌};
-ghost use Rattle.words.specs.Answers.{told_range, told_slot, told_span, told_stretch};
 ghost use Rattle.rules.specs.Calls.{as_directory_object};
 ghost use Rattle.rules.specs.Numbers.{as_directory, as_endpoint, as_function, as_memory, as_process, as_table};
 
-use words::answers::{RangeAnswer, SlotAnswer, SpanAnswer, StretchAnswer, why_span};
 use words::capabilities::{FunctionRange, Kind, Span, Stretch};
+use words::numbers::Slot;
 use words::refusals::Refusal;
 
-pub fn as_table(k: Kind) -> SlotAnswer
-    ensures { told_slot result ≡ as_table k }
+#[tactic(auto, unfolding(rules::specs::Numbers::as_table))]
+pub fn as_table(k: Kind) -> Result<Slot, Refusal>
+    ensures { result ≡ as_table k }
 {
     match k {
-        Kind::Table(o) => SlotAnswer::Found(o),
-        Kind::Directory {
-            object: _,
-            low: _,
-            high: _,
-        } => SlotAnswer::Refused(Refusal::CapType),
-        Kind::Memory { low: _, high: _ } => SlotAnswer::Refused(Refusal::CapType),
-        Kind::Process(_) => SlotAnswer::Refused(Refusal::CapType),
-        Kind::Endpoint(_) => SlotAnswer::Refused(Refusal::CapType),
-        Kind::Function { low: _, high: _ } => SlotAnswer::Refused(Refusal::CapType),
+        Kind::Table(object) => Ok(object),
+        Kind::Directory { .. }
+        | Kind::Memory { .. }
+        | Kind::Process(_)
+        | Kind::Endpoint(_)
+        | Kind::Function { .. } => Err(Refusal::CapType),
     }
 }
 
-pub(crate) fn as_directory(k: Kind) -> SpanAnswer
-    ensures { told_span result ≡ as_directory k }
+#[tactic(auto, unfolding(rules::specs::Numbers::as_directory))]
+pub(crate) fn as_directory(k: Kind) -> Result<Span, Refusal>
+    ensures { result ≡ as_directory k }
 {
     match k {
-        Kind::Table(_) => SpanAnswer::Refused(Refusal::CapType),
-        Kind::Directory { object, low, high } => SpanAnswer::Found(Span { object, low, high }),
-        Kind::Memory { low: _, high: _ } => SpanAnswer::Refused(Refusal::CapType),
-        Kind::Process(_) => SpanAnswer::Refused(Refusal::CapType),
-        Kind::Endpoint(_) => SpanAnswer::Refused(Refusal::CapType),
-        Kind::Function { low: _, high: _ } => SpanAnswer::Refused(Refusal::CapType),
+        Kind::Directory { object, low, high } => Ok(Span { object, low, high }),
+        Kind::Table(_)
+        | Kind::Memory { .. }
+        | Kind::Process(_)
+        | Kind::Endpoint(_)
+        | Kind::Function { .. } => Err(Refusal::CapType),
     }
 }
 
 // The object alone, for a deletion.
-pub fn as_directory_object(k: Kind) -> SlotAnswer
-    ensures { told_slot result ≡ as_directory_object k }
+pub fn as_directory_object(k: Kind) -> Result<Slot, Refusal>
+    ensures { result ≡ as_directory_object k }
 {
-    let d = as_directory(k);
-    let SpanAnswer::Found(x) = d else {
-        return SlotAnswer::Refused(why_span(d));
-    };
-    let o = x.object;
-    SlotAnswer::Found(o)
+    Ok(as_directory(k)?.object)
 }
 
-pub(crate) fn as_memory(k: Kind) -> StretchAnswer
-    ensures { told_stretch result ≡ as_memory k }
+#[tactic(auto, unfolding(rules::specs::Numbers::as_memory))]
+pub(crate) fn as_memory(k: Kind) -> Result<Stretch, Refusal>
+    ensures { result ≡ as_memory k }
 {
     match k {
-        Kind::Table(_) => StretchAnswer::Refused(Refusal::CapType),
-        Kind::Directory {
-            object: _,
-            low: _,
-            high: _,
-        } => StretchAnswer::Refused(Refusal::CapType),
-        Kind::Memory { low, high } => StretchAnswer::Found(Stretch { low, high }),
-        Kind::Process(_) => StretchAnswer::Refused(Refusal::CapType),
-        Kind::Endpoint(_) => StretchAnswer::Refused(Refusal::CapType),
-        Kind::Function { low: _, high: _ } => StretchAnswer::Refused(Refusal::CapType),
+        Kind::Memory { low, high } => Ok(Stretch { low, high }),
+        Kind::Table(_)
+        | Kind::Directory { .. }
+        | Kind::Process(_)
+        | Kind::Endpoint(_)
+        | Kind::Function { .. } => Err(Refusal::CapType),
     }
 }
 
-pub fn as_process(k: Kind) -> SlotAnswer
-    ensures { told_slot result ≡ as_process k }
+#[tactic(auto, unfolding(rules::specs::Numbers::as_process))]
+pub fn as_process(k: Kind) -> Result<Slot, Refusal>
+    ensures { result ≡ as_process k }
 {
     match k {
-        Kind::Table(_) => SlotAnswer::Refused(Refusal::CapType),
-        Kind::Directory {
-            object: _,
-            low: _,
-            high: _,
-        } => SlotAnswer::Refused(Refusal::CapType),
-        Kind::Memory { low: _, high: _ } => SlotAnswer::Refused(Refusal::CapType),
-        Kind::Process(o) => SlotAnswer::Found(o),
-        Kind::Endpoint(_) => SlotAnswer::Refused(Refusal::CapType),
-        Kind::Function { low: _, high: _ } => SlotAnswer::Refused(Refusal::CapType),
+        Kind::Process(object) => Ok(object),
+        Kind::Table(_)
+        | Kind::Directory { .. }
+        | Kind::Memory { .. }
+        | Kind::Endpoint(_)
+        | Kind::Function { .. } => Err(Refusal::CapType),
     }
 }
 
-pub fn as_endpoint(k: Kind) -> SlotAnswer
-    ensures { told_slot result ≡ as_endpoint k }
+#[tactic(auto, unfolding(rules::specs::Numbers::as_endpoint))]
+pub fn as_endpoint(k: Kind) -> Result<Slot, Refusal>
+    ensures { result ≡ as_endpoint k }
 {
     match k {
-        Kind::Table(_) => SlotAnswer::Refused(Refusal::CapType),
-        Kind::Directory {
-            object: _,
-            low: _,
-            high: _,
-        } => SlotAnswer::Refused(Refusal::CapType),
-        Kind::Memory { low: _, high: _ } => SlotAnswer::Refused(Refusal::CapType),
-        Kind::Process(_) => SlotAnswer::Refused(Refusal::CapType),
-        Kind::Endpoint(o) => SlotAnswer::Found(o),
-        Kind::Function { low: _, high: _ } => SlotAnswer::Refused(Refusal::CapType),
+        Kind::Endpoint(object) => Ok(object),
+        Kind::Table(_)
+        | Kind::Directory { .. }
+        | Kind::Memory { .. }
+        | Kind::Process(_)
+        | Kind::Function { .. } => Err(Refusal::CapType),
     }
 }
 
-pub fn as_function(k: Kind) -> RangeAnswer
-    ensures { told_range result ≡ as_function k }
+#[tactic(auto, unfolding(rules::specs::Numbers::as_function))]
+pub fn as_function(k: Kind) -> Result<FunctionRange, Refusal>
+    ensures { result ≡ as_function k }
 {
     match k {
-        Kind::Table(_) => RangeAnswer::Refused(Refusal::CapType),
-        Kind::Directory {
-            object: _,
-            low: _,
-            high: _,
-        } => RangeAnswer::Refused(Refusal::CapType),
-        Kind::Memory { low: _, high: _ } => RangeAnswer::Refused(Refusal::CapType),
-        Kind::Process(_) => RangeAnswer::Refused(Refusal::CapType),
-        Kind::Endpoint(_) => RangeAnswer::Refused(Refusal::CapType),
-        Kind::Function { low, high } => RangeAnswer::Found(FunctionRange { low, high }),
+        Kind::Function { low, high } => Ok(FunctionRange { low, high }),
+        Kind::Table(_)
+        | Kind::Directory { .. }
+        | Kind::Memory { .. }
+        | Kind::Process(_)
+        | Kind::Endpoint(_) => Err(Refusal::CapType),
     }
 }

@@ -13,10 +13,10 @@ use Rattle.state.proofs.Look.{position_past}
 use Rattle.state.specs.State.{State, position_at, positions_in, shape_at}
 use Rattle.words.proofs.Judged.{not_no, ok_eq}
 use Rattle.words.proofs.Tests.{and_left, and_right}
-use Rattle.words.specs.Try.{ok! }
+use Rattle.words.specs.Try.{Ok}
 use Rattle.judging_pages.specs.Names.{Child, Empty, Frame, Page, Position, Refusal, Slot}
 
-is_page : (r : Refusal) (p : Position) (f : Frame) → as_page r p ≡ ok! f → p ≡ Page f.frame f.flags
+is_page : (r : Refusal) (p : Position) (f : Frame) → as_page r p ≡ Ok f → p ≡ Page f.frame f.flags
 is_page r Empty f h = not_no _ r f h
 is_page r (Page x y) f h = ap (λ (z : Frame). Page z.frame z.flags) (ok_eq (record { frame = x; flags = y }) f h)
 is_page r (Child o y) f h = not_no _ r f h
@@ -29,7 +29,7 @@ page_below st s k f x q = go (ltb k (positions_in st s)) refl
     go false e = absurd (false≢true (sym (ap is_empty q) ∙ ap is_empty (position_past st s k (ltb-false _ _ e))))
 
 -- d is the target, s the source, which holds the page f at position k; i is the index
-pub frame_fits : (st : State) → wf st ≡ true → (d s : Slot) (k i : ℕ) (r : Refusal) (f : Frame) → as_page r (position_at st s k) ≡ ok! f
+pub frame_fits : (st : State) → wf st ≡ true → (d s : Slot) (k i : ℕ) (r : Refusal) (f : Frame) → as_page r (position_at st s k) ≡ Ok f
     → (shape_at st d).size ≤ (shape_at st s).size → i < 2 ^ ((shape_at st s).size - (shape_at st d).size)
     → ((shape_at st d).size ≤ 31) × (f.frame + i * 2 ^ (shape_at st d).size < 2 ^ 32)
 unfolding position_ok framed geometric

@@ -2,7 +2,7 @@
 use Rattle.std.specs.Prelude.{not, ◌%◌, ◌+◌, eqb, ltb}
 use Rattle.rules.specs.Calls.{in_span, is_empty, size_at}
 use Rattle.state.specs.State.{State, position_at, positions_in, shape_at}
-use Rattle.words.specs.Try.{◌>>◌, Try, need, ok! }
+use Rattle.words.specs.Try.{◌>>◌, Try, need, Ok}
 use Rattle.judging_pages.specs.Names.{Action, CapFlag, Child, PgtAddr, PgtMap, SetPosition, Span, Words}
 
 unfoldable pub hang_under : State → Span → Span → Words → Try Action
@@ -12,4 +12,4 @@ hang_under st p c w = do
   need (in_span p w.p2) CapFlag
   need (is_empty (position_at st p.object w.p2)) PgtMap
   need (not (shape_at st c.object).top) PgtMap
-  ok! (SetPosition p.object w.p2 (Child c.object (w.p3 % 64)))
+  Ok (SetPosition p.object w.p2 (Child c.object (w.p3 % 64)))

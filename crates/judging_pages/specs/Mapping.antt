@@ -5,7 +5,7 @@ use Rattle.state.specs.State.{State, position_at, positions_in}
 use Rattle.words.specs.Fields.{D0, D1}
 use Rattle.words.specs.Rights.{subset}
 use Rattle.words.specs.Tests.{◌&◌}
-use Rattle.words.specs.Try.{◌>>◌, ◌>>=◌, Try, need, ok! }
+use Rattle.words.specs.Try.{◌>>◌, ◌>>=◌, Try, need, Ok}
 use Rattle.judging_pages.specs.Names.{Action, CapFlag, Page, PgtAddr, PgtHw, PgtMap, PgtPerm, SetPosition, Span, Words}
 
 unfoldable pub map_in_range : State → Span → Span → Words → Try Action
@@ -15,7 +15,7 @@ map_in_range st d s w = do
   f ← as_page PgtHw (position_at st s.object (D0 w.p2))
   need (is_empty (position_at st d.object (D0 w.p1))) PgtMap
   need (subset (D1 w.p3) f.flags) PgtPerm
-  ok! (SetPosition d.object (D0 w.p1) (Page (f.frame + D0 w.p3 * 2 ^ size_at st d) (D1 w.p3)))
+  Ok (SetPosition d.object (D0 w.p1) (Page (f.frame + D0 w.p3 * 2 ^ size_at st d) (D1 w.p3)))
 
 unfoldable pub map_addressed : State → Span → Span → Words → Try Action
 map_addressed st d s w = do

@@ -1,6 +1,5 @@
 // 11 destruct: P1 directory DES; P2 position. "PGT_ADDR, range, PGT_MAP unless .. a child, is there".
 ghost use Rattle.std.specs.Prelude.{◌≡◌};
-ghost use Rattle.words.specs.Answers.{told_plan};
 ghost use Rattle.state.specs.Read.{read};
 ghost use Rattle.rules.specs.Calls.{destruct};
 
@@ -8,32 +7,28 @@ use crate::positions::{in_span, is_child};
 use judging_numbers::arguments::directory_arg;
 use reading::directories::{position_at, positions_in};
 use words::actions::Action;
-use words::answers::{Plan, SpanAnswer, why_span};
 use words::capabilities::Position;
 use words::fields::{Words, number_in_word};
 use words::flag_bits::D_DES;
 use words::numbers::Slot;
 use words::refusals::Refusal;
 
-pub fn judge_destruct(s: &[u8], t: Slot, w: Words) -> Plan
-    ensures { told_plan result ≡ destruct (read s.now) t w }
+pub fn judge_destruct(s: &[u8], t: Slot, w: Words) -> Result<Action, Refusal>
+    ensures { result ≡ destruct (read s.now) t w }
 {
-    let a = directory_arg(s, t, number_in_word(w.p1), D_DES);
-    let SpanAnswer::Found(d) = a else {
-        return Plan::Refused(why_span(a));
-    };
+    let d = directory_arg(s, t, number_in_word(w.p1), D_DES)?;
     let o = d.object;
     let i = w.p2;
     if positions_in(s, o) <= i {
-        return Plan::Refused(Refusal::PgtAddr);
+        return Err(Refusal::PgtAddr);
     }
     if !in_span(d, i) {
-        return Plan::Refused(Refusal::CapFlag);
+        return Err(Refusal::CapFlag);
     }
     if !is_child(position_at(s, o, i)) {
-        return Plan::Refused(Refusal::PgtMap);
+        return Err(Refusal::PgtMap);
     }
-    Plan::Do(Action::SetPosition {
+    Ok(Action::SetPosition {
         directory: o,
         position: i,
         to: Position::Empty,

@@ -1,7 +1,6 @@
 // 16 create endpoint: C table CRT; P1 memory SIG; P2 place; P3 address.
 // 17 delete endpoint: C table DEL; P1 place. "SIV_CONFLICT": "deleting the boot endpoint".
 ghost use Rattle.std.specs.Prelude.{true, ◌≡◌};
-ghost use Rattle.words.specs.Answers.{told_plan};
 ghost use Rattle.state.specs.Read.{read};
 ghost use Rattle.rules.specs.Calls.{create_endpoint, delete_endpoint};
 ghost use Rattle.rules.specs.WellFormed.{wf};
@@ -12,9 +11,6 @@ use judging_places::addresses::address_arg;
 use judging_places::places::to_fill;
 use reading::endpoints::boot_mark_at;
 use words::actions::{Action, Spot};
-use words::answers::{
-    Plan, SlotAnswer, SpotAnswer, StretchAnswer, why_slot, why_spot, why_stretch,
-};
 use words::fields::{Words, address_in_word, number_in_c, number_in_word};
 use words::flag_bits::{M_SIG, T_CRT, T_DEL};
 use words::numbers::Slot;
@@ -24,44 +20,26 @@ use words::refusals::Refusal;
 const ENDPOINT_SLOTS: u32 = 1;
 
 // On a well-formed state the memory right lies in kernel memory, so that an address in it has a slot.
-pub fn judge_create_endpoint(s: &[u8], t: Slot, w: Words) -> Plan
+pub fn judge_create_endpoint(s: &[u8], t: Slot, w: Words) -> Result<Action, Refusal>
     requires { wf (read s.now) ≡ true }
-    ensures { told_plan result ≡ create_endpoint (read s.now) t w }
+    ensures { result ≡ create_endpoint (read s.now) t w }
 {
-    let a = table_arg(s, t, number_in_c(w), T_CRT);
-    let SlotAnswer::Found(c) = a else {
-        return Plan::Refused(why_slot(a));
-    };
-    let b = memory_arg(s, t, number_in_word(w.p1), M_SIG);
-    let StretchAnswer::Found(m) = b else {
-        return Plan::Refused(why_stretch(b));
-    };
-    let l = to_fill(s, c, w.p2);
-    let SpotAnswer::Found(p) = l else {
-        return Plan::Refused(why_spot(l));
-    };
-    let x = address_arg(s, m, address_in_word(w.p3), ENDPOINT_SLOTS);
-    let SlotAnswer::Found(first) = x else {
-        return Plan::Refused(why_slot(x));
-    };
-    Plan::Do(Action::CreateEndpoint { at: p, first })
+    let c = table_arg(s, t, number_in_c(w), T_CRT)?;
+    let m = memory_arg(s, t, number_in_word(w.p1), M_SIG)?;
+    let p = to_fill(s, c, w.p2)?;
+    let first = address_arg(s, m, address_in_word(w.p3), ENDPOINT_SLOTS)?;
+    Ok(Action::CreateEndpoint { at: p, first })
 }
 
-pub fn judge_delete_endpoint(s: &[u8], t: Slot, w: Words) -> Plan
-    ensures { told_plan result ≡ delete_endpoint (read s.now) t w }
+pub fn judge_delete_endpoint(s: &[u8], t: Slot, w: Words) -> Result<Action, Refusal>
+    ensures { result ≡ delete_endpoint (read s.now) t w }
 {
-    let a = table_arg(s, t, number_in_c(w), T_DEL);
-    let SlotAnswer::Found(c) = a else {
-        return Plan::Refused(why_slot(a));
-    };
-    let b = endpoint_to_delete(s, c, w.p1);
-    let SlotAnswer::Found(o) = b else {
-        return Plan::Refused(why_slot(b));
-    };
+    let c = table_arg(s, t, number_in_c(w), T_DEL)?;
+    let o = endpoint_to_delete(s, c, w.p1)?;
     if boot_mark_at(s, o) {
-        return Plan::Refused(Refusal::SivConflict);
+        return Err(Refusal::SivConflict);
     }
-    Plan::Do(Action::Delete {
+    Ok(Action::Delete {
         at: Spot {
             table: c,
             entry: w.p1,

@@ -1,11 +1,9 @@
 // What a delegation gives: "new flags are non-empty and a subset, the range non-empty and inside, else −5".
 ghost use Rattle.std.specs.Prelude.{◌≡◌};
-ghost use Rattle.words.specs.Answers.{told_right};
 ghost use Rattle.words.specs.Rights.{inside, some_flag, some_range, subset};
 ghost use Rattle.rules.specs.Calls.{asked_flags, asked_kind, granted};
 
-use words::answers::RightAnswer;
-use words::capabilities::{Capability, Frost, Kind, Origin};
+use words::capabilities::{Capability, Frost, Kind};
 use words::fields::{Words, d0, d1};
 use words::flag_bits::FUNCTION_FLAGS;
 use words::grants::{Packed, unpack_grant};
@@ -25,28 +23,23 @@ fn asked_kind(k: Kind, w: Words) -> Kind
     ensures { result ≡ asked_kind k w }
 {
     match k {
-        Kind::Table(o) => Kind::Table(o),
-        Kind::Directory {
-            object,
-            low: _,
-            high: _,
-        } => Kind::Directory {
+        Kind::Directory { object, .. } => Kind::Directory {
             object,
             low: w.p3 / LOW_UNIT % POSITIONS_TOLD,
             high: w.p3 / HIGH_UNIT,
         },
-        Kind::Memory { low: _, high: _ } => {
+        Kind::Memory { .. } => {
             let g = unpack_grant(Packed { nc: w.nc, p3: w.p3 });
-            let low = g.lower;
-            let high = g.upper;
-            Kind::Memory { low, high }
+            Kind::Memory {
+                low: g.lower,
+                high: g.upper,
+            }
         }
-        Kind::Process(o) => Kind::Process(o),
-        Kind::Endpoint(o) => Kind::Endpoint(o),
-        Kind::Function { low: _, high: _ } => Kind::Function {
+        Kind::Function { .. } => Kind::Function {
             low: d0(w.p3),
             high: d1(w.p3),
         },
+        Kind::Table(_) | Kind::Process(_) | Kind::Endpoint(_) => k,
     }
 }
 
@@ -55,19 +48,10 @@ fn asked_flags(k: Kind, w: Words) -> u32
     ensures { result ≡ asked_flags k w }
 {
     match k {
-        Kind::Table(_) => w.p3,
-        Kind::Directory {
-            object: _,
-            low: _,
-            high: _,
-        } => w.p3 % LOW_UNIT,
-        Kind::Memory { low: _, high: _ } => {
-            let g = unpack_grant(Packed { nc: w.nc, p3: w.p3 });
-            g.flags
-        }
-        Kind::Process(_) => w.p3,
-        Kind::Endpoint(_) => w.p3,
-        Kind::Function { low: _, high: _ } => FUNCTION_FLAGS,
+        Kind::Table(_) | Kind::Process(_) | Kind::Endpoint(_) => w.p3,
+        Kind::Directory { .. } => w.p3 % LOW_UNIT,
+        Kind::Memory { .. } => unpack_grant(Packed { nc: w.nc, p3: w.p3 }).flags,
+        Kind::Function { .. } => FUNCTION_FLAGS,
     }
 }
 
@@ -76,16 +60,12 @@ fn some_flag(k: Kind, flags: u32) -> bool
     ensures { result ≡ some_flag k flags }
 {
     match k {
-        Kind::Table(_) => 1 <= flags,
-        Kind::Directory {
-            object: _,
-            low: _,
-            high: _,
-        } => 1 <= flags,
-        Kind::Memory { low: _, high: _ } => 1 <= flags,
-        Kind::Process(_) => 1 <= flags,
-        Kind::Endpoint(_) => 1 <= flags,
-        Kind::Function { low: _, high: _ } => true,
+        Kind::Table(_)
+        | Kind::Directory { .. }
+        | Kind::Memory { .. }
+        | Kind::Process(_)
+        | Kind::Endpoint(_) => 1 <= flags,
+        Kind::Function { .. } => true,
     }
 }
 
@@ -96,20 +76,14 @@ fn is_subset(a: u32, b: u32) -> bool
 }
 
 // "both included" for a directory and a function, "the upper is excluded" for memory.
+#[tactic(auto, unfolding(words::specs::Rights::some_range))]
 fn some_range(k: Kind) -> bool
     ensures { result ≡ some_range k }
 {
     match k {
-        Kind::Table(_) => true,
-        Kind::Directory {
-            object: _,
-            low,
-            high,
-        } => low <= high,
+        Kind::Directory { low, high, .. } | Kind::Function { low, high } => low <= high,
         Kind::Memory { low, high } => low.0 < high.0,
-        Kind::Process(_) => true,
-        Kind::Endpoint(_) => true,
-        Kind::Function { low, high } => low <= high,
+        Kind::Table(_) | Kind::Process(_) | Kind::Endpoint(_) => true,
     }
 }
 
@@ -120,9 +94,7 @@ fn is_inside(k: Kind, p: Kind) -> bool
     if kind_number(k) != kind_number(p) {
         return false;
     }
-    let o = object_of(k);
-    let q = object_of(p);
-    if o.0 != q.0 {
+    if object_of(k) != object_of(p) {
         return false;
     }
     if low_of(k) < low_of(p) {
@@ -132,28 +104,27 @@ fn is_inside(k: Kind, p: Kind) -> bool
 }
 
 // The right that the words ask for of the right c, as a child of the place of number p.
-pub(crate) fn grant_of(c: Capability, p: u32, w: Words) -> RightAnswer
-    ensures { told_right result ≡ granted c p w }
+pub(crate) fn grant_of(c: Capability, p: u32, w: Words) -> Result<Capability, Refusal>
+    ensures { result ≡ granted c p w }
 {
-    let k = c.kind;
-    let flags = asked_flags(k, w);
-    let kind = asked_kind(k, w);
-    if !some_flag(k, flags) {
-        return RightAnswer::Refused(Refusal::CapFlag);
+    let kind = asked_kind(c.kind, w);
+    let flags = asked_flags(c.kind, w);
+    if !some_flag(c.kind, flags) {
+        return Err(Refusal::CapFlag);
     }
     if !is_subset(flags, c.flags) {
-        return RightAnswer::Refused(Refusal::CapFlag);
+        return Err(Refusal::CapFlag);
     }
     if !some_range(kind) {
-        return RightAnswer::Refused(Refusal::CapFlag);
+        return Err(Refusal::CapFlag);
     }
-    if !is_inside(kind, k) {
-        return RightAnswer::Refused(Refusal::CapFlag);
+    if !is_inside(kind, c.kind) {
+        return Err(Refusal::CapFlag);
     }
-    RightAnswer::Found(Capability {
+    Ok(Capability {
         kind,
         flags,
         frost: Frost::Thawed,
-        origin: Origin::Under(p),
+        origin: Some(p),
     })
 }

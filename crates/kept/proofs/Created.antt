@@ -15,7 +15,7 @@ use Rattle.state.proofs.Write.{is_table}
 use Rattle.state.specs.State.{Object, State, entries_in, obj_at, place_at, places_of, put_place, raise, size_of}
 use Rattle.words.specs.Fields.{slot}
 use Rattle.words.specs.Rights.{root_right}
-use Rattle.kept.specs.Names.{Blank, Holds, Kind, Place, Slot, Spot}
+use Rattle.kept.specs.Names.{None, Some, Kind, Place, Slot, Spot}
 use Rattle.kept.proofs.Base.{Base, base}
 use Rattle.kept.proofs.PutPlace.{fits_filled, place_base, place_like, right_keep, roots_more}
 use Rattle.kept.proofs.Raise.{raise_base, raise_fix, raise_roots, raised}
@@ -23,12 +23,12 @@ use Rattle.kept.proofs.Roots.{Of, formed_of, no_roots, root_here, root_other, ro
 use Rattle.kept.proofs.Stand.{Bare, Stand, Zone, apart, first, later, vacant_first, zone}
 
 module _ (st : State) (w : Formed st) (s : Slot) (o : Object) (i : ℕ) (n : Bare o i) (r : Vacant st s (size_of o))
-    (p : Spot) (he : p.entry < entries_in st p.table) (empty : place_at st p.table p.entry ≡ Blank) (k : Kind) (of : Of k s i) where
+    (p : Spot) (he : p.entry < entries_in st p.table) (empty : place_at st p.table p.entry ≡ None) (k : Kind) (of : Of k s i) where
   abbrev st₁ : State
   st₁ = raise st s o
 
   abbrev x : Place
-  x = Holds (root_right k)
+  x = Some (root_right k)
 
   abbrev st₂ : State
   st₂ = put_place st₁ p x
@@ -42,8 +42,8 @@ module _ (st : State) (w : Formed st) (s : Slot) (o : Object) (i : ℕ) (n : Bar
   he₁ : p.entry < entries_in st₁ p.table
   he₁ = subst (λ (y : Object). p.entry < length (places_of y)) (sym table_stays) he
 
-  empty₁ : place_at st₁ p.table p.entry ≡ Blank
-  empty₁ = ap (λ (y : Object). get_or (places_of y) p.entry Blank) table_stays ∙ empty
+  empty₁ : place_at st₁ p.table p.entry ≡ None
+  empty₁ = ap (λ (y : Object). get_or (places_of y) p.entry None) table_stays ∙ empty
 
   module _ (good : object_ok st₁ s o ≡ true) (fine : right_ok st₁ (root_right k) ≡ true) where
     base₁ : Base st₁

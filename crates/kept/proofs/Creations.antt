@@ -22,7 +22,7 @@ use Rattle.words.proofs.Tests.{all_of, and_both}
 use Rattle.words.specs.Fields.{count}
 use Rattle.words.specs.Rights.{all_flags, root_right}
 use Rattle.words.specs.Tests.{◌&◌}
-use Rattle.kept.specs.Names.{Blank, CreateDirectory, CreateEndpoint, CreateProcess, CreateTable, Directory, Empty, Endpoint, Geometry, Holds, Kind, Position, Process, Slot, Spot, Table, Words}
+use Rattle.kept.specs.Names.{None, CreateDirectory, CreateEndpoint, CreateProcess, CreateTable, Directory, Empty, Endpoint, Geometry, Some, Kind, Position, Process, Slot, Spot, Table, Words}
 use Rattle.kept.proofs.Base.{base}
 use Rattle.kept.proofs.Created.{created}
 use Rattle.kept.proofs.Raise.{raise_runs, raised}
@@ -45,7 +45,7 @@ module _ (st : State) (w : Formed (still st)) where
 
     -- the new object with its root; what stands at s is the new object
     made : (o : Object) (i : ℕ) (n : Bare o i) → size_of o ≡ m → (k : Kind) → Of k s i → (Vacant ss s (size_of o) → object_ok (raise ss s o) s o ≡ true)
-        → (obj_at (raise ss s o) s ≡ o → right_ok (raise ss s o) (root_right k) ≡ true) → Formed (put_place (raise ss s o) p (Holds (root_right k)))
+        → (obj_at (raise ss s o) s ≡ o → right_ok (raise ss s o) (root_right k) ≡ true) → Formed (put_place (raise ss s o) p (Some (root_right k)))
     made o i n size k of good fine =
         let r : Vacant ss s (size_of o) = subst (Vacant ss s) (sym size) vacant in
         created ss w s o i n r p c.fill.below c.fill.blank k of (good r) (fine (raised ss (base w) s o i n r).here)
@@ -53,8 +53,8 @@ module _ (st : State) (w : Formed (still st)) where
   pub table_made : {t : Slot} {p : Spot} {s : Slot} {n : ℕ} → TableMade st t p s n → Formed (still (commit st (CreateTable p s n)))
   unfolding object_ok names ends_ok whole
   table_made {s = s} {n = n} h =
-      let long : length (replicate n Blank) ≡ n = length-replicate n Blank in
-      made h.creation (table (replicate n Blank)) 0 (record { number = refl; some = omega (arith, table_slots n, h.some); blank = λ i. copies n i Blank }) (table_slots n) (Table s) (of_table s)
+      let long : length (replicate n None) ≡ n = length-replicate n None in
+      made h.creation (table (replicate n None)) 0 (record { number = refl; some = omega (arith, table_slots n, h.some); blank = λ i. copies n i None }) (table_slots n) (Table s) (of_table s)
       (λ _. subst (λ (i : ℕ). (leb 1 i & leb i 64) ≡ true) (sym long) (and_both _ _ (le-leb _ _ h.some) (le-leb _ _ h.most)))
       (λ at. root_ok _ (Table s) (eq-eqb _ _ (ap object_no at)) refl refl)
 

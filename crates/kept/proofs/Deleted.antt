@@ -23,7 +23,7 @@ use Rattle.state.specs.State.{Object, State, free, obj_at, place_at, places_of, 
 use Rattle.words.proofs.Tests.{any_none, or_false}
 use Rattle.words.specs.Fields.{slot}
 use Rattle.words.specs.Rights.{is_blank, is_root}
-use Rattle.kept.specs.Names.{Blank, Capability, Child, Empty, Holds, Place, Slot, Spot}
+use Rattle.kept.specs.Names.{None, Capability, Child, Empty, Some, Place, Slot, Spot}
 use Rattle.kept.proofs.Base.{Base, base}
 use Rattle.kept.proofs.Childless.{childless_fits}
 use Rattle.kept.proofs.PutPlace.{place_apart, place_base, place_like, place_put, roots_less}
@@ -44,9 +44,9 @@ unhung st o h k j d f hk hj q = not_eqb _ _ (sym (ap (is_child_at o) q) ∙ any_
 
 module _ (st : State) (w : Formed st) (p : Spot) (c : Capability) (o : Slot) (i : ℕ)
     (stands : Stands st p c) (number : object_no (obj_at st o) ≡ suc i) (orig : is_root c.origin ≡ true) (childless : has_children st p ≡ false) (userless : has_users st o ≡ false)
-    (of : Of c.kind o i) (blank : (a : ℕ) → place_at st o a ≡ Blank) (hung : Unhung st o) where
+    (of : Of c.kind o i) (blank : (a : ℕ) → place_at st o a ≡ None) (hung : Unhung st o) where
   abbrev st₁ : State
-  st₁ = put_place st p Blank
+  st₁ = put_place st p None
 
   abbrev st₂ : State
   st₂ = raze st₁ o
@@ -56,27 +56,27 @@ module _ (st : State) (w : Formed st) (p : Spot) (c : Capability) (o : Slot) (i 
   apart_from q = absurd (false≢true (sym (ap is_blank stands.holds) ∙ ap (λ (m : ℕ). is_blank (place_at st (slot m) p.entry)) (sym q) ∙ ap is_blank (blank p.entry)))
 
   base₁ : Base st₁
-  base₁ = place_base st (base w) p Blank stands.below refl (λ s j d q r n from f. childless_fits st w p stands.below childless s j d q n from f)
+  base₁ = place_base st (base w) p None stands.below refl (λ s j d q r n from f. childless_fits st w p stands.below childless s j d q n from f)
 
   -- what is no table is as it was
   same₁ : (k : ℕ) → object_no (obj_at st₁ (slot k)) ≢ 1 → obj_at st₁ (slot k) ≡ obj_at st (slot k)
   same₁ k d = elim (ℕ_discrete k p.table.0) [
-    | yes q ↦ absurd (d (ap (λ (m : ℕ). object_no (obj_at st₁ (slot m))) q ∙ ap object_no (place_put st (base w) p Blank stands.below)))
-    | no m ↦ place_apart st (base w) p Blank stands.below k m
+    | yes q ↦ absurd (d (ap (λ (m : ℕ). object_no (obj_at st₁ (slot m))) q ∙ ap object_no (place_put st (base w) p None stands.below)))
+    | no m ↦ place_apart st (base w) p None stands.below k m
   ]
 
   o_same : obj_at st₁ o ≡ obj_at st o
-  o_same = place_apart st (base w) p Blank stands.below o.0 apart_from
+  o_same = place_apart st (base w) p None stands.below o.0 apart_from
 
   bare : Bare (obj_at st₁ o) i
   bare = record {
     number = ap object_no o_same ∙ number;
     some = object_some st₁ base₁.laid o (some_tag (obj_at st₁ o) (omega (arith, ap object_no o_same ∙ number)));
-    blank = λ a. ap (λ (x : Object). get_or (places_of x) a Blank) o_same ∙ blank a;
+    blank = λ a. ap (λ (x : Object). get_or (places_of x) a None) o_same ∙ blank a;
   }
 
-  less : (n : ℕ) (q : Slot) → roots_of st n q ≡ roots_of st₁ n q + one (is_root_of n q (Holds c))
-  less n q = roots_less st (base w) p Blank stands.below refl n q ∙ ap (λ (p : Place). roots_of st₁ n q + one (is_root_of n q p)) stands.holds
+  less : (n : ℕ) (q : Slot) → roots_of st n q ≡ roots_of st₁ n q + one (is_root_of n q (Some c))
+  less n q = roots_less st (base w) p None stands.below refl n q ∙ ap (λ (p : Place). roots_of st₁ n q + one (is_root_of n q p)) stands.holds
 
   rootless : roots_of st₁ (suc i) o ≡ 0
   rootless =
@@ -105,7 +105,7 @@ module _ (st : State) (w : Formed st) (p : Spot) (c : Capability) (o : Slot) (i 
   rooted₂ : (z : ℕ) → z < 256 → (obj_at st₂ (slot z) ≡ free) ⊎ ((obj_at st₂ (slot z) ≡ obj_at st₁ (slot z)) × (z ≢ o.0)) → rooted_no st₂ (slot z) (object_no (obj_at st₂ (slot z))) ≡ true
   rooted₂ z hz (inl q) = ap (λ (x : Object). rooted_no st₂ (slot z) (object_no x)) q
   rooted₂ z hz (inr q) =
-      ap (rooted_no st₂ (slot z)) (ap object_no q.0 ∙ (place_like st (base w) p Blank stands.below z).number)
+      ap (rooted_no st₂ (slot z)) (ap object_no q.0 ∙ (place_like st (base w) p None stands.below z).number)
       ∙ rooted_same st st₂ (slot z) (object_no (obj_at st (slot z))) (λ n. same₂ n (slot z) (λ _ y. q.1 y)) ∙ rooted_at st w z hz
 
   pub deleted : Formed st₂

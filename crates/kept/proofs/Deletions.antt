@@ -19,7 +19,7 @@ use Rattle.state.proofs.Look.{place_past}
 use Rattle.state.specs.State.{State, entries_in, obj_at, place_at, shape_at}
 use Rattle.words.proofs.Tests.{all_at, and_left}
 use Rattle.words.specs.Fields.{slot}
-use Rattle.kept.specs.Names.{Blank, Child, Delete, Directory, Endpoint, Kind, Process, Slot, Spot, Table}
+use Rattle.kept.specs.Names.{None, Child, Delete, Directory, Endpoint, Kind, Process, Slot, Spot, Table}
 use Rattle.kept.proofs.Deleted.{Unhung, deleted, unhung}
 use Rattle.kept.proofs.Objects.{no_place}
 use Rattle.kept.proofs.Roots.{Of, of_directory, of_endpoint, of_process, of_table}
@@ -37,7 +37,7 @@ module _ (st : State) (w : Formed (still st)) where
       let z : object_no (obj_at st d) ≡ 2 = eqb-true _ _ (and_left _ _ (and_left _ _ p)) in
       two (sym number ∙ subst (λ (x : ℕ). object_no (obj_at st (slot x)) ≡ 2) e z)
 
-  empty_table : (o : Slot) → is_empty_table st o ≡ true → (a : ℕ) → place_at st o a ≡ Blank
+  empty_table : (o : Slot) → is_empty_table st o ≡ true → (a : ℕ) → place_at st o a ≡ None
   unfolding is_empty_table
   empty_table o h a = elim (dec_lt a (entries_in st o)) [ yes l ↦ is_blank_lem _ (all_at _ _ h a l) | no n ↦ place_past st o a (omega arith) ]
 
@@ -47,7 +47,7 @@ module _ (st : State) (w : Formed (still st)) where
     stood : (k : Kind) → h.right.kind ≡ k → Standing st k
     stood k q = subst (Standing st) q (stands_held st w h.stands)
 
-    gone : (i : ℕ) → Of h.right.kind o i → object_no (obj_at st o) ≡ suc i → ((a : ℕ) → place_at st o a ≡ Blank) → Unhung ss o → Formed (still (commit st (Delete p o)))
+    gone : (i : ℕ) → Of h.right.kind o i → object_no (obj_at st o) ≡ suc i → ((a : ℕ) → place_at st o a ≡ None) → Unhung ss o → Formed (still (commit st (Delete p o)))
     unfolding has_children has_users
     gone i of number blank hung =
         deleted ss w p h.right o i (record { below = h.stands.below; holds = h.stands.holds }) number h.root h.childless h.unused of blank hung

@@ -13,7 +13,7 @@ use Rattle.rules.proofs.Chain.{Reaches, child, root}
 use Rattle.rules.proofs.Codes.{reaches_test, test_reaches}
 use Rattle.rules.proofs.Facts.{right_open}
 use Rattle.rules.specs.Chains.{code_of, codes, origin_code}
-use Rattle.kept.specs.Names.{Blank, Capability, Holds, Origin, Place, Root, Under}
+use Rattle.kept.specs.Names.{None, Capability, Some, Origin, Place}
 use Rattle.kept.proofs.Chain.{fresh_reaches, gone_reaches, same_reaches}
 
 -- the right c fits under the place of number p, whose chain reaches a root
@@ -21,22 +21,22 @@ pub record Fits (st : State) (c : Capability) (p : ℕ) : Type 0 where
   pub parent : parent_fits c (place_numbered st p) ≡ true
   pub chain : Reaches (codes st) p
 
-pub fits_of : (st : State) (c : Capability) (p : ℕ) → descends st c (Under p) ≡ true → Fits st c p
+pub fits_of : (st : State) (c : Capability) (p : ℕ) → descends st c (Some p) ≡ true → Fits st c p
 unfolding descends
 fits_of st c p h = record { parent = and_left _ _ h; chain = test_reaches st p (and_right _ _ h) }
 
-pub of_fits : (st : State) → Laid st → (c : Capability) (p : ℕ) → Fits st c p → descends st c (Under p) ≡ true
+pub of_fits : (st : State) → Laid st → (c : Capability) (p : ℕ) → Fits st c p → descends st c (Some p) ≡ true
 unfolding descends
 of_fits st w c p f = and_both _ _ f.parent (reaches_test st w p f.chain)
 
 -- a place that holds a right that stands reaches a root
-pub reaches_right : (st : State) (c : Capability) (p : ℕ) → place_numbered st p ≡ Holds c → right_ok st c ≡ true → Reaches (codes st) p
+pub reaches_right : (st : State) (c : Capability) (p : ℕ) → place_numbered st p ≡ Some c → right_ok st c ≡ true → Reaches (codes st) p
 unfolding codes
 reaches_right st c p q h = go c.origin refl (right_open st c h).descent
   where
     go : (o : Origin) → c.origin ≡ o → descends st c o ≡ true → Reaches (codes st) p
-    go Root e d = root (ap code_of q ∙ ap origin_code e)
-    go (Under r) e d = child (ap code_of q ∙ ap origin_code e) (fits_of st c r d).chain
+    go None e d = root (ap code_of q ∙ ap origin_code e)
+    go (Some r) e d = child (ap code_of q ∙ ap origin_code e) (fits_of st c r d).chain
 
 -- ---- no place changes
 pub fits_same : (st st' : State) → ((n : ℕ) → place_numbered st' n ≡ place_numbered st n) → (c : Capability) (p : ℕ) → Fits st c p → Fits st' c p
@@ -50,7 +50,7 @@ module _ (st st' : State) (x : ℕ) (but : (n : ℕ) → n ≢ x → place_numbe
   but_code n d = ap code_of (but n d)
 
   -- it was blank
-  pub fits_fresh : place_numbered st x ≡ Blank → (c : Capability) (p : ℕ) → Fits st c p → Fits st' c p
+  pub fits_fresh : place_numbered st x ≡ None → (c : Capability) (p : ℕ) → Fits st c p → Fits st' c p
   unfolding codes
   fits_fresh e c p f = record {
     parent = ap (parent_fits c) (but p (λ q. absurd (false≢true (sym (ap (parent_fits c) e) ∙ (rw q at f.parent))))) ∙ f.parent;
@@ -76,12 +76,12 @@ module _ (st st' : State) (x : ℕ) (but : (n : ℕ) → n ≢ x → place_numbe
   }
     where
       froze_code : (y : Place) → code_of (froze clock y) ≡ code_of y
-      froze_code Blank = refl
-      froze_code (Holds a) = refl
+      froze_code None = refl
+      froze_code (Some a) = refl
 
       froze_fits : (y : Place) → parent_fits c (froze clock y) ≡ parent_fits c y
-      froze_fits Blank = refl
-      froze_fits (Holds a) = refl
+      froze_fits None = refl
+      froze_fits (Some a) = refl
 
       same : (y : ℕ) → Dec (y ≡ x) → codes st' y ≡ codes st y
       same y (yes q) = rw q (ap code_of e ∙ froze_code (place_numbered st x))

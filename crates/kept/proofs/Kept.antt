@@ -10,7 +10,7 @@ use Rattle.rules.specs.Commit.{after, commit}
 use Rattle.rules.specs.Formed.{Wf}
 use Rattle.rules.specs.WellFormed.{wf}
 use Rattle.state.specs.State.{State}
-use Rattle.words.specs.Try.{Try, no!, ok! }
+use Rattle.words.specs.Try.{Try, Err, Ok}
 use Rattle.kept.specs.Names.{Action, Answer, ChangeDirectory, ChangeTable, CreateDirectory, CreateEndpoint, CreateProcess, CreateTable, Delete, Fill, Freeze, Remove, SetCount, SetPosition, Slot, Words}
 use Rattle.kept.proofs.Creations.{directory_made, endpoint_made, process_made, table_made}
 use Rattle.kept.proofs.Deletions.{object_deleted}
@@ -33,7 +33,7 @@ action_kept st v t (ChangeDirectory p d) word w h = record { shape = directory_c
 action_kept st v t (SetCount e c n) word w h = record { shape = count_set st w.shape h; time = w.time }
 action_kept st v t (Answer n) word w h = w
 
-pub wf_kept : (st : State) (caller : ℕ) (v : Words) (a : Action) → v.p3 < 2 ^ 32 → wf st ≡ true → plan st caller v ≡ ok! a → wf (commit st a) ≡ true
+pub wf_kept : (st : State) (caller : ℕ) (v : Words) (a : Action) → v.p3 < 2 ^ 32 → wf st ≡ true → plan st caller v ≡ Ok a → wf (commit st a) ≡ true
 wf_kept st caller v a word h p = let s = passed st caller v a p in wf_close (commit st a) (action_kept st v s.table a word (wf_open st h) s.shown)
 
 -- whether it passes or not
@@ -41,5 +41,5 @@ pub wf_after : (st : State) (caller : ℕ) (v : Words) → v.p3 < 2 ^ 32 → wf 
 wf_after st caller v word h = go (plan st caller v) refl
   where
     go : (r : Try Action) → plan st caller v ≡ r → wf (after st r) ≡ true
-    go (no! r) e = h
-    go (ok! a) e = wf_kept st caller v a word h e
+    go (Err r) e = h
+    go (Ok a) e = wf_kept st caller v a word h e

@@ -7,10 +7,10 @@ use lib.ListN.{get_or}
 use Rattle.rules.specs.WellFormed.{object_no}
 use Rattle.state.specs.State.{Object, body, directory, endpoint, first_of, free, places_of, process, table}
 use Rattle.words.specs.Fields.{slot}
-use Rattle.kept.specs.Names.{Blank}
+use Rattle.kept.specs.Names.{None}
 
 -- only a table holds rights
-pub no_place : (o : Object) → object_no o ≢ 1 → (e : ℕ) → get_or (places_of o) e Blank ≡ Blank
+pub no_place : (o : Object) → object_no o ≢ 1 → (e : ℕ) → get_or (places_of o) e None ≡ None
 no_place free d e = refl
 no_place (body f) d e = refl
 no_place (table ps) d e = absurd (d refl)

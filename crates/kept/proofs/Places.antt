@@ -17,7 +17,7 @@ use Rattle.state.specs.State.{State, place_at, place_number, place_numbered, put
 use Rattle.words.proofs.Flags.{subset_le}
 use Rattle.words.proofs.Tests.{and_both, and_left, and_right}
 use Rattle.words.specs.Tests.{◌&◌}
-use Rattle.kept.specs.Names.{Blank, Capability, Fill, Freeze, Frozen, Holds, Origin, Place, Remove, Root, Slot, Spot, Under, Words}
+use Rattle.kept.specs.Names.{None, Capability, Fill, Freeze, Frozen, Some, Origin, Place, Remove, Slot, Spot, Words}
 use Rattle.kept.proofs.Base.{base}
 use Rattle.kept.proofs.Childless.{childless_fits}
 use Rattle.kept.proofs.Descent.{Fits, fits_frozen, of_fits, reaches_right}
@@ -35,12 +35,12 @@ frozen_ok st c n l r =
     right_close st (frozen_right c n) (record { stands = r.stands; ends = r.ends; flags = r.flags; stamp = lt-ltb _ _ l; descent = go c.origin r.descent })
   where
     go : (o : Origin) → descends st c o ≡ true → descends st (frozen_right c n) o ≡ true
-    go Root d = d
-    go (Under p) d = and_both _ _ (fit (place_numbered st p) (and_left _ _ d)) (and_right _ _ d)
+    go None d = d
+    go (Some p) d = and_both _ _ (fit (place_numbered st p) (and_left _ _ d)) (and_right _ _ d)
       where
         fit : (x : Place) → parent_fits c x ≡ true → parent_fits (frozen_right c n) x ≡ true
-        fit Blank e = e
-        fit (Holds q) e = e
+        fit None e = e
+        fit (Some q) e = e
 
 module _ (st : State) (w : Formed (still st)) where
   abbrev ss : State
@@ -52,7 +52,7 @@ module _ (st : State) (w : Formed (still st)) where
       let c : Capability = h.right in
       let parent = held_right st w h.stands in
       let n : ℕ = place_number h.source in
-      let at : place_numbered ss n ≡ Holds c = numbered ss (laid_out w) h.source h.stands.below ∙ h.stands.holds in
+      let at : place_numbered ss n ≡ Some c = numbered ss (laid_out w) h.source h.stands.below ∙ h.stands.holds in
       let fit : parent_fits g (place_numbered ss n) ≡ true = rw (at, h.kind, h.flags) (and_both _ _ h.within h.fewer) in
       right_close ss g (record {
         stands = rw h.kind (grant_names ss c.kind v parent.stands);
@@ -67,9 +67,9 @@ module _ (st : State) (w : Formed (still st)) where
   unfolding ◌&◌
   filled_place {t = t} {v = v} {p = p} {g = g} h =
       let he = h.fill.below in
-      let fits = fits_filled ss (base w) p (Holds g) he h.fill.blank in
-      place_formed ss (base w) p (Holds g) he w (λ k o. rw (h.origin, h.fill.blank) refl)
-      (right_keep ss (base w) p (Holds g) he g (λ n _ f. fits g n f) (grant_ok t v p g h)) (λ s i c _ _ n _ f. fits c n f)
+      let fits = fits_filled ss (base w) p (Some g) he h.fill.blank in
+      place_formed ss (base w) p (Some g) he w (λ k o. rw (h.origin, h.fill.blank) refl)
+      (right_keep ss (base w) p (Some g) he g (λ n _ f. fits g n f) (grant_ok t v p g h)) (λ s i c _ _ n _ f. fits c n f)
 
   pub frozen_place : {t : Slot} {p : Spot} → st.clock < 2 ^ 32 → Freezing st t p → Formed (still (commit st (Freeze p)))
   frozen_place {p = p} l h =
@@ -89,5 +89,5 @@ module _ (st : State) (w : Formed (still st)) where
   pub blanked_place : {t : Slot} {p : Spot} → Removal st t p → Formed (still (commit st (Remove p)))
   unfolding ◌&◌ has_children
   blanked_place {p = p} h =
-      place_formed ss (base w) p Blank h.stands.below w (λ k o. rw (h.stands.holds, h.child) refl) refl
+      place_formed ss (base w) p None h.stands.below w (λ k o. rw (h.stands.holds, h.child) refl) refl
       (λ s i c q _ r from f. childless_fits ss w p h.stands.below h.childless s i c q r from f)

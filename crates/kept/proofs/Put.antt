@@ -19,7 +19,7 @@ use Rattle.state.specs.State.{Object, State, free, obj_at, place_at, place_numbe
 use Rattle.words.proofs.Tests.{sum_same}
 use Rattle.words.specs.Fields.{slot}
 use Rattle.words.specs.Tests.{sum_below}
-use Rattle.kept.specs.Names.{Blank, Holds, Place, Slot, Spot}
+use Rattle.kept.specs.Names.{None, Some, Place, Slot, Spot}
 use Rattle.kept.proofs.Descent.{fits_same}
 use Rattle.kept.proofs.Roots.{formed_same}
 use Rattle.kept.proofs.Stay.{Like, like_eq, object_alike, right_alike, spot_alike}
@@ -69,15 +69,15 @@ module _ (st : State) (w : Formed st) (d : Slot) (x : Object) (is : obj_at st d 
   numbered_same : (n : ℕ) → place_numbered st' n ≡ place_numbered st n
   numbered_same n =
       ap (λ (p : Spot). place_at st' p.table p.entry) (spot_alike st st' like n)
-      ∙ ap (λ (l : List Place). get_or l (spot_numbered st n).entry Blank) (places_same (spot_numbered st n).table.0)
+      ∙ ap (λ (l : List Place). get_or l (spot_numbered st n).entry None) (places_same (spot_numbered st n).table.0)
 
   right_same : (p : Place) → right (right_ok st) p ≡ true → right (right_ok st') p ≡ true
-  right_same Blank h = refl
-  right_same (Holds c) h = right_alike st st' like laid c (λ p _ f. fits_same st st' numbered_same c p f) h
+  right_same None h = refl
+  right_same (Some c) h = right_alike st st' like laid c (λ p _ f. fits_same st st' numbered_same c p f) h
 
   roots_same : (k : ℕ) (s : Slot) → roots_of st' k s ≡ roots_of st k s
   unfolding roots_of
-  roots_same k s = sum_same 256 _ _ (λ x. ap (λ (l : List Place). sum_below (length l) (λ e. one (is_root_of k s (get_or l e Blank)))) (places_same x))
+  roots_same k s = sum_same 256 _ _ (λ x. ap (λ (l : List Place). sum_below (length l) (λ e. one (is_root_of k s (get_or l e None)))) (places_same x))
 
   pub put_formed : object_ok st d o ≡ true → Formed st'
   put_formed ok =
@@ -85,7 +85,7 @@ module _ (st : State) (w : Formed st) (d : Slot) (x : Object) (is : obj_at st d 
       (record {
         laid = laid;
         rights = λ s hs e he.
-            ap (λ (l : List Place). right (right_ok st') (get_or l e Blank)) (places_same s)
+            ap (λ (l : List Place). right (right_ok st') (get_or l e None)) (places_same s)
             ∙ right_same (place_at st (slot s) e) (w.rights s hs e (subst (λ (l : List Place). e < length l) (places_same s) he));
         objects = λ s hs. object_alike st st' like (slot s) (obj_at st' (slot s)) (object s hs (ℕ_discrete s d.0));
       })

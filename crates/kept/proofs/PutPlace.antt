@@ -22,7 +22,7 @@ use Rattle.words.proofs.Tests.{sum_more, sum_same}
 use Rattle.words.specs.Fields.{slot}
 use Rattle.words.specs.Sizes.{slots_for}
 use Rattle.words.specs.Tests.{◌&◌, sum_below}
-use Rattle.kept.specs.Names.{Blank, Capability, Holds, Place, Slot, Spot, Under}
+use Rattle.kept.specs.Names.{None, Capability, Some, Place, Slot, Spot}
 use Rattle.kept.proofs.Base.{Base}
 use Rattle.kept.proofs.Descent.{Fits, fits_fresh}
 use Rattle.kept.proofs.Put.{put_here, put_like, put_there}
@@ -80,14 +80,14 @@ module _ (st : State) (w : Base st) (p : Spot) (x : Place) (he : p.entry < entri
 
   -- ---- the places
   place_here : place_at st' t e ≡ x
-  place_here = ap (λ (o : Object). get_or (places_of o) e Blank) place_put ∙ get_or-set_same ps e x Blank he
+  place_here = ap (λ (o : Object). get_or (places_of o) e None) place_put ∙ get_or-set_same ps e x None he
 
   place_there : (s k : ℕ) → (s ≡ t.0 → k ≡ e → ⊥) → place_at st' (slot s) k ≡ place_at st (slot s) k
   place_there s k n = pick (ℕ_discrete s t.0)
     where
       pick : Dec (s ≡ t.0) → place_at st' (slot s) k ≡ place_at st (slot s) k
-      pick (yes q) = subst (λ (i : ℕ). place_at st' (slot i) k ≡ place_at st (slot i) k) (sym q) (ap (λ (o : Object). get_or (places_of o) k Blank) place_put ∙ get_or-set_other ps e k x Blank (n q))
-      pick (no m) = ap (λ (o : Object). get_or (places_of o) k Blank) (place_apart s m)
+      pick (yes q) = subst (λ (i : ℕ). place_at st' (slot i) k ≡ place_at st (slot i) k) (sym q) (ap (λ (o : Object). get_or (places_of o) k None) place_put ∙ get_or-set_other ps e k x None (n q))
+      pick (no m) = ap (λ (o : Object). get_or (places_of o) k None) (place_apart s m)
 
   -- the same by the numbers of places
   pub new_numbered : place_numbered st' (place_number p) ≡ x
@@ -99,12 +99,12 @@ module _ (st : State) (w : Base st) (p : Spot) (x : Place) (he : p.entry < entri
       ∙ place_there (spot_numbered st n).table.0 (spot_numbered st n).entry (λ a b. d (omega (arith, number_spot st w.laid n, a, b)))
 
   -- where it was blank, each right fits under its parent as it did
-  pub fits_filled : place_at st t e ≡ Blank → (c : Capability) (n : ℕ) → Fits st c n → Fits st' c n
+  pub fits_filled : place_at st t e ≡ None → (c : Capability) (n : ℕ) → Fits st c n → Fits st' c n
   fits_filled blank = fits_fresh st st' (place_number p) but_numbered (numbered st w.laid p he ∙ blank)
 
   -- ---- rights and objects
   -- a right that fits under its parent as it did
-  pub right_keep : (c : Capability) → ((p : ℕ) → c.origin ≡ Under p → Fits st c p → Fits st' c p) → right_ok st c ≡ true → right_ok st' c ≡ true
+  pub right_keep : (c : Capability) → ((p : ℕ) → c.origin ≡ Some p → Fits st c p → Fits st' c p) → right_ok st c ≡ true → right_ok st' c ≡ true
   right_keep = right_alike st st' place_like place_laid
 
   table_ok : (qs rs : List Place) → length qs ≡ length rs → object_ok st t (table qs) ≡ object_ok st t (table rs)
@@ -113,7 +113,7 @@ module _ (st : State) (w : Base st) (p : Spot) (x : Place) (he : p.entry < entri
 
   -- the new right stands, and each other one does
   abbrev KeptRights : Type 0
-  KeptRights = (s i : ℕ) (c : Capability) → place_at st (slot s) i ≡ Holds c → right_ok st c ≡ true → (p : ℕ) → c.origin ≡ Under p → Fits st c p → Fits st' c p
+  KeptRights = (s i : ℕ) (c : Capability) → place_at st (slot s) i ≡ Some c → right_ok st c ≡ true → (p : ℕ) → c.origin ≡ Some p → Fits st c p → Fits st' c p
 
   pub place_base : right (right_ok st') x ≡ true → KeptRights → Base st'
   place_base ok keep =
@@ -124,8 +124,8 @@ module _ (st : State) (w : Base st) (p : Spot) (x : Place) (he : p.entry < entri
       }
     where
       old : (s i : ℕ) (p : Place) → place_at st (slot s) i ≡ p → right (right_ok st) p ≡ true → right (right_ok st') p ≡ true
-      old s i Blank q h = refl
-      old s i (Holds c) q h = right_keep c (keep s i c q h) h
+      old s i None q h = refl
+      old s i (Some c) q h = right_keep c (keep s i c q h) h
 
       at : (s i : ℕ) → right (right_ok st) (place_at st (slot s) i) ≡ true → Where t.0 e s i → right (right_ok st') (place_at st' (slot s) i) ≡ true
       at s i h (this p q) = subst (λ (a : ℕ). right (right_ok st') (place_at st' (slot a) i) ≡ true) (sym p)
@@ -141,7 +141,7 @@ module _ (st : State) (w : Base st) (p : Spot) (x : Place) (he : p.entry < entri
   -- the count where one state's place holds nothing, and the other's holds y
   count : (a b : State) (y : Place) → ((s : ℕ) → entries_in a (slot s) ≡ entries_in b (slot s)) → t.0 < 256 → e < entries_in b t
       → ((s i : ℕ) → (s ≡ t.0 → i ≡ e → ⊥) → place_at a (slot s) i ≡ place_at b (slot s) i)
-      → place_at b t e ≡ Blank → place_at a t e ≡ y → (k : ℕ) (o : Slot) → roots_of a k o ≡ roots_of b k o + one (is_root_of k o y)
+      → place_at b t e ≡ None → place_at a t e ≡ y → (k : ℕ) (o : Slot) → roots_of a k o ≡ roots_of b k o + one (is_root_of k o y)
   unfolding roots_of
   count a b y long ht hb there blank is k o =
       sum_more 256 _ _ t.0 (one (is_root_of k o y)) ht
@@ -152,11 +152,11 @@ module _ (st : State) (w : Base st) (p : Spot) (x : Place) (he : p.entry < entri
       (λ s n. ap₂ sum_below (long s) (fun_ext (λ i. ap (λ (z : Place). one (is_root_of k o z)) (there s i (λ q _. n q)))))
 
   -- where the place held nothing, the count grows by what it holds now
-  pub roots_more : place_at st t e ≡ Blank → (k : ℕ) (o : Slot) → roots_of st' k o ≡ roots_of st k o + one (is_root_of k o x)
+  pub roots_more : place_at st t e ≡ None → (k : ℕ) (o : Slot) → roots_of st' k o ≡ roots_of st k o + one (is_root_of k o x)
   roots_more blank = count st' st x (λ s. (place_like s).entries) (entries_in_lem st w.laid t e he) he place_there blank place_here
 
   -- where it holds nothing now, the count shrinks by what it held
-  pub roots_less : x ≡ Blank → (k : ℕ) (o : Slot) → roots_of st k o ≡ roots_of st' k o + one (is_root_of k o (place_at st t e))
+  pub roots_less : x ≡ None → (k : ℕ) (o : Slot) → roots_of st k o ≡ roots_of st' k o + one (is_root_of k o (place_at st t e))
   roots_less blank =
       count st st' (place_at st t e) (λ s. sym (place_like s).entries) (entries_in_lem st w.laid t e he)
       (subst (λ (n : ℕ). e < n) (sym (place_like t.0).entries) he) (λ s i n. sym (place_there s i n)) (place_here ∙ blank) refl

@@ -10,7 +10,7 @@ use Rattle.state.specs.State.{Object, State, body, obj_at, places_of, raise, siz
 use Rattle.state.proofs.LaidAfter.{laid_raise}
 use Rattle.state.proofs.New.{Vacant}
 use Rattle.rules.specs.WellFormed.{object_no, object_ok, roots_of, runs}
-use Rattle.kept.specs.Names.{Blank, Slot}
+use Rattle.kept.specs.Names.{None, Slot}
 use Rattle.kept.proofs.Base.{Base}
 use Rattle.kept.proofs.Stand.{Bare, Stand, Zone, apart, first, later, numbered_same, stand_raise, stand_roots, zone}
 use Rattle.kept.proofs.Stay.{Any, Fresh, Like, any_kind, any_object, base_stay, like_eq, runs_stay}
@@ -38,8 +38,8 @@ module _ (st : State) (w : Base st) (s : Slot) (o : Object) (i : ℕ) (n : Bare 
       base_stay st st' Any like w (laid_raise st w.laid s o n.some r.fits r.none) (numbered_same st st' w.laid s o i n raised)
       (λ k. from k (zone s.0 (size_of o) k)) (λ t e c q h. any_kind c.kind) (λ k hk. any_object (obj_at st (slot k)))
     where
-      fresh : (k : ℕ) (x : Object) → obj_at st' (slot k) ≡ x → ((e : ℕ) → get_or (places_of x) e Blank ≡ Blank) → object_ok st' (slot k) x ≡ true → Fresh st st' Any like k
-      fresh k x q b g = record { blank = λ e. ap (λ (y : Object). get_or (places_of y) e Blank) q ∙ b e; good = ap (object_ok st' (slot k)) q ∙ g }
+      fresh : (k : ℕ) (x : Object) → obj_at st' (slot k) ≡ x → ((e : ℕ) → get_or (places_of x) e None ≡ None) → object_ok st' (slot k) x ≡ true → Fresh st st' Any like k
+      fresh k x q b g = record { blank = λ e. ap (λ (y : Object). get_or (places_of y) e None) q ∙ b e; good = ap (object_ok st' (slot k)) q ∙ g }
 
       from : (k : ℕ) → Zone s.0 (size_of o) k → (obj_at st' (slot k) ≡ obj_at st (slot k)) ⊎ Fresh st st' Any like k
       from k (first q) = inr (fresh k o (rw q raised.here) n.blank (rw q ok))

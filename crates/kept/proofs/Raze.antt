@@ -15,7 +15,7 @@ use Rattle.state.proofs.LaidAfter.{laid_raze}
 use Rattle.rules.proofs.Named.{some_tag}
 use Rattle.rules.specs.WellFormed.{names, object_no, object_ok, roots_of}
 use Rattle.rules.proofs.Facts.{right_open}
-use Rattle.kept.specs.Names.{Blank, Child, Directory, Endpoint, Function, Kind, Memory, Process, Slot, Table}
+use Rattle.kept.specs.Names.{None, Child, Directory, Endpoint, Function, Kind, Memory, Process, Slot, Table}
 use Rattle.kept.proofs.Base.{Base}
 use Rattle.kept.proofs.Stand.{Bare, Stand, Zone, apart, first, later, numbered_same, stand_raze, stand_roots, vacant_first, zone}
 use Rattle.kept.proofs.Stay.{Fresh, Like, NeKind, base_stay, like_eq}
@@ -75,7 +75,7 @@ module _ (st : State) (w : Base st) (s : Slot) (i : ℕ) (n : Bare (obj_at st s)
       (λ k hk. record { named = λ t d q. users k t d hk q; hung = λ j c f l q. hung k j c f hk l q })
     where
       from : (k : ℕ) → (obj_at st' (slot k) ≡ free) ⊎ ((obj_at st' (slot k) ≡ obj_at st (slot k)) × (k ≢ s.0)) → (obj_at st' (slot k) ≡ obj_at st (slot k)) ⊎ Fresh st st' Ne like k
-      from k (inl q) = inr (record { blank = λ e. ap (λ (y : Object). get_or (places_of y) e Blank) q; good = ap (object_ok st' (slot k)) q })
+      from k (inl q) = inr (record { blank = λ e. ap (λ (y : Object). get_or (places_of y) e None) q; good = ap (object_ok st' (slot k)) q })
       from k (inr q) = inl q.0
 
   pub raze_roots : (k : ℕ) (q : Slot) → roots_of st' k q ≡ roots_of st k q

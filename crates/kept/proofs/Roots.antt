@@ -13,7 +13,7 @@ use Rattle.state.specs.State.{Object, State, body, directory, endpoint, free, ob
 use Rattle.words.proofs.Tests.{and_both, and_left, and_right, sum_zero}
 use Rattle.words.specs.Fields.{slot}
 use Rattle.words.specs.Rights.{is_root, kind_no, object_of}
-use Rattle.kept.specs.Names.{Blank, Capability, Directory, Endpoint, Function, Holds, Kind, Memory, Place, Process, Slot, Table}
+use Rattle.kept.specs.Names.{None, Capability, Directory, Endpoint, Function, Some, Kind, Memory, Place, Process, Slot, Table}
 use Rattle.kept.proofs.Base.{Base}
 
 -- whether an object has its one root, by its number
@@ -85,27 +85,27 @@ record RootIs (n : ℕ) (q : Slot) (c : Capability) : Type 0 where
   number : kind_no c.kind ≡ n
   object : (object_of c.kind).0 ≡ q.0
 
-root_is : (n : ℕ) (q : Slot) (c : Capability) → is_root_of n q (Holds c) ≡ true → RootIs n q c
+root_is : (n : ℕ) (q : Slot) (c : Capability) → is_root_of n q (Some c) ≡ true → RootIs n q c
 root_is n q c h = record { number = eqb-true _ _ (and_left _ _ (and_right _ _ h)); object = eqb-true _ _ (and_right _ _ (and_right _ _ h)) }
 
 module _ (c : Capability) (s : Slot) (i : ℕ) (o : Of c.kind s i) where
-  pub root_here : is_root c.origin ≡ true → is_root_of (suc i) s (Holds c) ≡ true
+  pub root_here : is_root c.origin ≡ true → is_root_of (suc i) s (Some c) ≡ true
   root_here r = and_both _ _ r (and_both _ _ (eq-eqb _ _ o.number) (eq-eqb _ _ o.object))
 
   -- it is a root of no other kind or object
-  pub root_other : (n : ℕ) (q : Slot) → (suc i ≡ n → q.0 ≡ s.0 → ⊥) → is_root_of n q (Holds c) ≡ false
-  root_other n q d = go (is_root_of n q (Holds c)) refl
+  pub root_other : (n : ℕ) (q : Slot) → (suc i ≡ n → q.0 ≡ s.0 → ⊥) → is_root_of n q (Some c) ≡ false
+  root_other n q d = go (is_root_of n q (Some c)) refl
     where
-      go : (b : Bool) → is_root_of n q (Holds c) ≡ b → is_root_of n q (Holds c) ≡ false
+      go : (b : Bool) → is_root_of n q (Some c) ≡ b → is_root_of n q (Some c) ≡ false
       go false h = h
       go true h = absurd (let r = root_is n q c h in d (sym o.number ∙ r.number) (sym r.object ∙ o.object))
 
 -- where no object of the number stands there is no root
 no_root : (st : State) (q : Slot) (n : ℕ) → n ≢ 3 → n ≢ 6 → n ≢ object_no (obj_at st q) → (p : Place) → right (right_ok st) p ≡ true → is_root_of n q p ≡ false
-no_root st q n a b d Blank h = refl
-no_root st q n a b d (Holds c) h = go (is_root_of n q (Holds c)) refl
+no_root st q n a b d None h = refl
+no_root st q n a b d (Some c) h = go (is_root_of n q (Some c)) refl
   where
-    go : (x : Bool) → is_root_of n q (Holds c) ≡ x → is_root_of n q (Holds c) ≡ false
+    go : (x : Bool) → is_root_of n q (Some c) ≡ x → is_root_of n q (Some c) ≡ false
     go false e = e
     go true e =
         let r = root_is n q c e in

@@ -15,10 +15,10 @@ use Rattle.state.specs.State.{State, entries_in, first_of, obj_at, place_at, pla
 use Rattle.words.specs.Fields.{slot}
 use Rattle.words.specs.Rights.{is_blank}
 use Rattle.words.specs.Sizes.{slots_for}
-use Rattle.kept.specs.Names.{Capability, Holds, Slot, Spot}
+use Rattle.kept.specs.Names.{Capability, Some, Slot, Spot}
 
 -- a place that holds a right is one of the table
-pub holds_in : (st : State) (t : Slot) (e : ℕ) (c : Capability) → place_at st t e ≡ Holds c → e < entries_in st t
+pub holds_in : (st : State) (t : Slot) (e : ℕ) (c : Capability) → place_at st t e ≡ Some c → e < entries_in st t
 holds_in st t e c h = elim (dec_lt e (entries_in st t)) [
   | yes l ↦ l
   | no n ↦ absurd (false≢true (sym (ap is_blank h) ∙ ap is_blank (place_past st t e (omega arith))))

@@ -17,14 +17,14 @@ use Rattle.state.proofs.Elsewhere.{raise_apart, raise_first, raise_part, raze_ap
 use Rattle.state.proofs.New.{Vacant}
 use Rattle.state.proofs.Run.{object_fits, object_part}
 use Rattle.rules.specs.WellFormed.{is_root_of, object_no, one, roots_of}
-use Rattle.kept.specs.Names.{Blank, Place, Slot}
+use Rattle.kept.specs.Names.{None, Place, Slot}
 use Rattle.kept.proofs.Objects.{first_self}
 
 -- what is made and what is deleted: it has a number, takes a slot at least, and holds no right
 pub record Bare (o : Object) (i : ℕ) : Type 0 where
   pub number : object_no o ≡ suc i
   pub some : 1 ≤ size_of o
-  pub blank : (e : ℕ) → get_or (places_of o) e Blank ≡ Blank
+  pub blank : (e : ℕ) → get_or (places_of o) e None ≡ None
 
 -- slot k against the n slots from s on
 pub data Zone (s n k : ℕ) : Type 0 where
@@ -81,13 +81,13 @@ module _ (a b : State) (w : Laid a) (s : Slot) (o : Object) (i : ℕ) (n : Bare 
   same_at : (m : ℕ) → obj_at b (slot (m / 2)) ≡ obj_at a (slot (m / 2)) → place_numbered b m ≡ place_numbered a m
   same_at m e =
       let h : Slot = first_of (m / 2) (obj_at a (slot (m / 2))) in
-      found_at b m h (ap (first_of (m / 2)) e) ∙ ap (λ (y : Object). get_or (places_of y) (m - 2 * h.0) Blank) (first_same (m / 2) (obj_at a (slot (m / 2))) refl e)
+      found_at b m h (ap (first_of (m / 2)) e) ∙ ap (λ (y : Object). get_or (places_of y) (m - 2 * h.0) None) (first_same (m / 2) (obj_at a (slot (m / 2))) refl e)
 
-  without : (m : ℕ) → obj_at a (slot (m / 2)) ≡ free → place_numbered a m ≡ Blank
-  without m e = found_at a m (slot (m / 2)) (ap (first_of (m / 2)) e) ∙ ap (λ (y : Object). get_or (places_of y) (m - 2 * (m / 2)) Blank) e
+  without : (m : ℕ) → obj_at a (slot (m / 2)) ≡ free → place_numbered a m ≡ None
+  without m e = found_at a m (slot (m / 2)) (ap (first_of (m / 2)) e) ∙ ap (λ (y : Object). get_or (places_of y) (m - 2 * (m / 2)) None) e
 
-  with_it : (m : ℕ) → first_of (m / 2) (obj_at b (slot (m / 2))) ≡ s → place_numbered b m ≡ Blank
-  with_it m e = found_at b m s e ∙ ap (λ (y : Object). get_or (places_of y) (m - 2 * s.0) Blank) x.here ∙ n.blank (m - 2 * s.0)
+  with_it : (m : ℕ) → first_of (m / 2) (obj_at b (slot (m / 2))) ≡ s → place_numbered b m ≡ None
+  with_it m e = found_at b m s e ∙ ap (λ (y : Object). get_or (places_of y) (m - 2 * s.0) None) x.here ∙ n.blank (m - 2 * s.0)
 
   pub numbered_same : (m : ℕ) → place_numbered b m ≡ place_numbered a m
   numbered_same m = go (zone s.0 (size_of o) (m / 2))

@@ -16,7 +16,7 @@ use Rattle.state.specs.State.{Object, State, body, directory, endpoint, entries_
 use Rattle.rules.proofs.Named.{top_stands}
 use Rattle.rules.specs.WellFormed.{descends, ends_ok, hangs, names, object_no, object_ok, position_ok, right, right_ok, runs, whole}
 use Rattle.rules.proofs.Facts.{right_close, right_open}
-use Rattle.kept.specs.Names.{Blank, Capability, Child, Directory, Empty, Endpoint, Function, Geometry, Holds, Kind, Memory, Origin, Page, Place, Position, Process, Root, Slot, Table, Under}
+use Rattle.kept.specs.Names.{None, Capability, Child, Directory, Empty, Endpoint, Function, Geometry, Some, Kind, Memory, Origin, Page, Place, Position, Process, Slot, Table}
 use Rattle.kept.proofs.Base.{Base}
 use Rattle.kept.proofs.Descent.{Fits, fits_of, fits_same, of_fits}
 
@@ -85,15 +85,15 @@ module _ (st st' : State) (Ne : Slot → Type 0) (fix : (k : Slot) → 0 < objec
   whole_stay (Function l u) d n h = h
 
   -- a right that fits under its parent as it did
-  right_stay : Laid st' → (c : Capability) → NeKind Ne c.kind → ((p : ℕ) → c.origin ≡ Under p → Fits st c p → Fits st' c p) → right_ok st c ≡ true → right_ok st' c ≡ true
+  right_stay : Laid st' → (c : Capability) → NeKind Ne c.kind → ((p : ℕ) → c.origin ≡ Some p → Fits st c p → Fits st' c p) → right_ok st c ≡ true → right_ok st' c ≡ true
   unfolding descends
   right_stay w c d f h =
       let r = right_open st c h in
       right_close st' c (record { stands = names_stay c.kind d r.stands; ends = ends_stay c.kind d r.stands r.ends; flags = r.flags; stamp = r.stamp; descent = origin r.stands c.origin refl r.descent })
     where
       origin : names st c.kind ≡ true → (o : Origin) → c.origin ≡ o → descends st c o ≡ true → descends st' c o ≡ true
-      origin n Root q e = and_both _ _ (and_left _ _ e) (whole_stay c.kind d n (and_right _ _ e))
-      origin n (Under p) q e = of_fits st' w c p (f p q (fits_of st c p e))
+      origin n None q e = and_both _ _ (and_left _ _ e) (whole_stay c.kind d n (and_right _ _ e))
+      origin n (Some p) q e = of_fits st' w c p (f p q (fits_of st c p e))
 
   pub runs_stay : (t d : Slot) → Ne t → Ne d → runs st t d ≡ true → runs st' t d ≡ true
   unfolding runs
@@ -126,20 +126,20 @@ module _ (st st' : State) (Ne : Slot → Type 0) (fix : (k : Slot) → 0 < objec
 
   -- each slot holds what it held, or an object that is new, is as it should be, and holds no right; the places keep their numbers
   pub record Fresh (k : ℕ) : Type 0 where
-    pub blank : (e : ℕ) → place_at st' (slot k) e ≡ Blank
+    pub blank : (e : ℕ) → place_at st' (slot k) e ≡ None
     pub good : object_ok st' (slot k) (obj_at st' (slot k)) ≡ true
 
   pub base_stay : Base st → Laid st' → ((n : ℕ) → place_numbered st' n ≡ place_numbered st n) → ((k : ℕ) → (obj_at st' (slot k) ≡ obj_at st (slot k)) ⊎ Fresh k)
-      → ((t : Slot) (e : ℕ) (c : Capability) → place_at st t e ≡ Holds c → right_ok st c ≡ true → NeKind Ne c.kind) → ((k : ℕ) → k < 256 → NeObject Ne (obj_at st (slot k))) → Base st'
+      → ((t : Slot) (e : ℕ) (c : Capability) → place_at st t e ≡ Some c → right_ok st c ≡ true → NeKind Ne c.kind) → ((k : ℕ) → k < 256 → NeObject Ne (obj_at st (slot k))) → Base st'
   base_stay w laid same from kinds objects =
       record { laid = laid; rights = λ k hk e he. rights k hk e he (from k); objects = λ k hk. object k hk (from k) }
     where
       keep : (k e : ℕ) (p : Place) → place_at st (slot k) e ≡ p → right (right_ok st) p ≡ true → right (right_ok st') p ≡ true
-      keep k e Blank q h = refl
-      keep k e (Holds c) q h = right_stay laid c (kinds (slot k) e c q h) (λ p _ f. fits_same st st' same c p f) h
+      keep k e None q h = refl
+      keep k e (Some c) q h = right_stay laid c (kinds (slot k) e c q h) (λ p _ f. fits_same st st' same c p f) h
 
       rights : (k : ℕ) → k < 256 → (e : ℕ) → e < entries_in st' (slot k) → (obj_at st' (slot k) ≡ obj_at st (slot k)) ⊎ Fresh k → right (right_ok st') (place_at st' (slot k) e) ≡ true
-      rights k hk e he (inl q) = ap (λ (y : Object). right (right_ok st') (get_or (places_of y) e Blank)) q ∙ keep k e (place_at st (slot k) e) refl (w.rights k hk e (subst (λ (y : Object). e < length (places_of y)) q he))
+      rights k hk e he (inl q) = ap (λ (y : Object). right (right_ok st') (get_or (places_of y) e None)) q ∙ keep k e (place_at st (slot k) e) refl (w.rights k hk e (subst (λ (y : Object). e < length (places_of y)) q he))
       rights k hk e he (inr f) = ap (right (right_ok st')) (f.blank e)
 
       object : (k : ℕ) → k < 256 → (obj_at st' (slot k) ≡ obj_at st (slot k)) ⊎ Fresh k → object_ok st' (slot k) (obj_at st' (slot k)) ≡ true
@@ -162,7 +162,7 @@ pub any_object : (x : Object) → NeObject Any x
 any_object x = record { named = λ t d _. (tt, tt); hung = λ i o f l _. tt }
 
 module _ (st st' : State) (like : (k : ℕ) → Like (obj_at st' (slot k)) (obj_at st (slot k))) where
-  pub right_alike : Laid st' → (c : Capability) → ((p : ℕ) → c.origin ≡ Under p → Fits st c p → Fits st' c p) → right_ok st c ≡ true → right_ok st' c ≡ true
+  pub right_alike : Laid st' → (c : Capability) → ((p : ℕ) → c.origin ≡ Some p → Fits st c p → Fits st' c p) → right_ok st c ≡ true → right_ok st' c ≡ true
   right_alike w c f h = right_stay st st' Any (λ k _ _. like k.0) w c (any_kind c.kind) f h
 
   pub object_alike : (s : Slot) (x : Object) → object_ok st s x ≡ true → object_ok st' s x ≡ true

@@ -10,14 +10,14 @@ use Rattle.rules.specs.Calls.{plan}
 use Rattle.state.specs.Read.{read}
 use Rattle.words.specs.Refusals.{number}
 use Rattle.words.specs.Tests.{choose}
-use Rattle.words.specs.Try.{Try, no!, ok! }
+use Rattle.words.specs.Try.{Try, Err, Ok}
 use Rattle.kernel.specs.Demands.{Listed, refusal, success}
 use Rattle.kernel.specs.Names.{Action, BadState, Words}
 use Rattle.rules.specs.Commit as Rule
 
 outcome_listed : (b : List ℕ) (caller : ℕ) (w : Words) → sound b ≡ true → (r : Try Action) → plan (read b) caller w ≡ r → Listed (outcome b r).reply
-outcome_listed b caller w s (no! r) e = refusal r refl
-outcome_listed b caller w s (ok! a) e = success (Rule.success a) refl (answer_fits (read b) a (ready_plan b caller w a s e))
+outcome_listed b caller w s (Err r) e = refusal r refl
+outcome_listed b caller w s (Ok a) e = success (Rule.success a) refl (answer_fits (read b) a (ready_plan b caller w a s e))
 
 -- for all callers, words and buffers
 pub call_listed : (b : List ℕ) (caller : ℕ) (w : Words) → Listed (call_outcome b caller w).reply
@@ -30,8 +30,8 @@ call_listed b caller w = go (sound b) refl
 
 -- a negative answer leaves the buffer equal
 outcome_stays : (b : List ℕ) (r : Try Action) (n : ℕ) → (outcome b r).reply ≡ negsuc n → (outcome b r).buffer ≡ b
-outcome_stays b (no! r) n h = refl
-outcome_stays b (ok! a) n h = absurd (let z : ◌≡◌ {A = ℕ} 0 1 = cc in omega arith)
+outcome_stays b (Err r) n h = refl
+outcome_stays b (Ok a) n h = absurd (let z : ◌≡◌ {A = ℕ} 0 1 = cc in omega arith)
 
 pub refusal_stays : (b : List ℕ) (caller : ℕ) (w : Words) (n : ℕ) → (call_outcome b caller w).reply ≡ negsuc n → (call_outcome b caller w).buffer ≡ b
 unfolding call_outcome
@@ -50,8 +50,8 @@ module _ (b : List ℕ) where
 
   -- and by any call: no plan says −19
   unsaid : (r : Try Action) → Sayable r → (outcome b r).reply ≡ number BadState → ⊥
-  unsaid (no! r) s h = false≢true (sym s ∙ ap is_bad_state h)
-  unsaid (ok! a) s h = false≢true (ap is_bad_state h)
+  unsaid (Err r) s h = false≢true (sym s ∙ ap is_bad_state h)
+  unsaid (Ok a) s h = false≢true (ap is_bad_state h)
 
   pub check_calls : (caller : ℕ) (w : Words) → ((call_outcome b caller w).reply ≡ number BadState → sound b ≡ false) × (sound b ≡ false → (call_outcome b caller w).reply ≡ number BadState)
   unfolding call_outcome

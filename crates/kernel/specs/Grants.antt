@@ -4,7 +4,7 @@ use Rattle.words.specs.Fields.{address}
 use Rattle.words.specs.Grants.{pack, unpack}
 use Rattle.words.specs.Refusals.{number}
 use Rattle.words.specs.Tests.{choose}
-use Rattle.words.specs.Try.{Try, no!, ok! }
+use Rattle.words.specs.Try.{Try, Err, Ok}
 use Rattle.kernel.specs.Names.{Grant, Packed}
 use Rattle.kernel.specs.Script.{too_few_lent}
 
@@ -17,8 +17,8 @@ short out = record { reply = too_few_lent; words = out }
 
 -- the words of a grant in front, "−5 for an address off 64 or flags above 63"
 abbrev pub packed_into : List ℕ → Try Packed → WordsResult
-packed_into out (ok! w) = record { reply = pos 0; words = w.nc ∷ w.p3 ∷ drop 2 out }
-packed_into out (no! r) = record { reply = number r; words = out }
+packed_into out (Ok w) = record { reply = pos 0; words = w.nc ∷ w.p3 ∷ drop 2 out }
+packed_into out (Err r) = record { reply = number r; words = out }
 
 unfoldable pub pack_result : ℕ → ℕ → ℕ → List ℕ → WordsResult
 pack_result l u f out =

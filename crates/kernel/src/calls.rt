@@ -7,7 +7,6 @@ use audit::well_formed;
 use committing::actions::carry_out;
 use committing::answers::answer_of;
 use judging::judge;
-use words::answers::Plan;
 use words::fields::Words;
 use words::refusals::{Refusal, refusal_number};
 
@@ -29,10 +28,10 @@ pub fn kernel_call(s: &mut [u8], caller: u32, w0: u32, w1: u32, w2: u32, w3: u32
         },
     );
     match p {
-        Plan::Do(a) => {
+        Ok(a) => {
             carry_out(s, a);
             answer_of(a)
         }
-        Plan::Refused(r) => refusal_number(r),
+        Err(r) => refusal_number(r),
     }
 }

@@ -4,7 +4,7 @@ ghost use Rattle.std.specs.Prelude.{◌≡◌};
 ghost use Rattle.kernel.specs.Grants.{pack_result, unpack_result};
 
 use crate::runs::TOO_FEW_LENT;
-use words::grants::{Grant, Packed, Packing, pack_grant, unpack_grant};
+use words::grants::{Grant, Packed, pack_grant, unpack_grant};
 use words::numbers::KernelAddress;
 use words::refusals::refusal_number;
 
@@ -16,18 +16,18 @@ pub fn kernel_pack(lower: u32, upper: u32, flags: u32, words: &mut [u32]) -> i32
     if words.len() < 2 {
         return TOO_FEW_LENT;
     }
-    let p = pack_grant(Grant {
+    let packed = pack_grant(Grant {
         lower: KernelAddress(lower),
         upper: KernelAddress(upper),
         flags,
     });
-    match p {
-        Packing::Words(w) => {
+    match packed {
+        Ok(w) => {
             words[0] = w.nc;
             words[1] = w.p3;
             0
         }
-        Packing::Refused(r) => refusal_number(r),
+        Err(r) => refusal_number(r),
     }
 }
 
@@ -40,10 +40,8 @@ pub fn kernel_unpack(nc: u32, p3: u32, words: &mut [u32]) -> i32
         return TOO_FEW_LENT;
     }
     let g = unpack_grant(Packed { nc, p3 });
-    let lower = g.lower;
-    let upper = g.upper;
-    words[0] = lower.0;
-    words[1] = upper.0;
+    words[0] = g.lower.0;
+    words[1] = g.upper.0;
     words[2] = g.flags;
     0
 }

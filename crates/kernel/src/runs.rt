@@ -40,8 +40,7 @@ pub fn kernel_run(s: &mut [u8], script: &[u32], answers: &mut [i32]) -> i32
     if answers.len() < n {
         return TOO_FEW_LENT;
     }
-    let mut i: usize = 0;
-    while i < n {
+    for i in 0..n {
         let at = EVENT_WORDS * i;
         answers[i] = happen(
             s,
@@ -51,7 +50,6 @@ pub fn kernel_run(s: &mut [u8], script: &[u32], answers: &mut [i32]) -> i32
             script[at + 3],
             script[at + 4],
         );
-        i += 1;
     }
     0
 }

@@ -1,6 +1,7 @@
 -- Reading digits as the loop does: one character more, the end, and why a value above 4294967295 may be cut to one that stands for all.
 use mathlib.Core.List.{List, [], ◌∷◌}
 use mathlib.Core.Path.{◌≡◌, sym, ◌∙◌}
+use Rattle.std.specs.Prelude.{Err}
 use Prim.Native.Nat.{ℕ, ◌+◌, ◌*◌, ◌<◌, ◌≤◌, min}
 use native.Mathlib.Decide.{dec_le}
 use native.Mathlib.Nat.{min-eq_left, min-eq_right, mul-le-mul_left}
@@ -20,8 +21,7 @@ unfolding value_from
 grows base v [] h = omega arith
 grows base v (b ∷ bs) h = omega (arith, grows base (v * base + digit_of b) bs h, mul-le-mul_left v h)
 
-large : (base v : ℕ) (bs : List ℕ) → 1 ≤ base → 4294967296 ≤ v → sized (value_from base v bs) ≡ TooLarge
-unfolding sized
+large : (base v : ℕ) (bs : List ℕ) → 1 ≤ base → 4294967296 ≤ v → sized (value_from base v bs) ≡ Err TooLarge
 large base v bs h l = rw (lt-leb (value_from base v bs) 4294967295 (omega (arith, grows base v bs h)))
 
 cut : (base v : ℕ) (bs : List ℕ) → 1 ≤ base → sized (value_from base (min v 4294967296) bs) ≡ sized (value_from base v bs)
@@ -39,7 +39,7 @@ module _ (base v : ℕ) (t : List ℕ) (i : ℕ) where
   unfolding digits_of all_digits value_from ◌&◌
   digits_more h l d = rw (drop-cons t i 0 l, lt-ltb _ _ d, cut base _ _ h, add-one i)
 
-  pub digits_bad : i < length t → base ≤ digit_of (get_or t i 0) → digits_of base v (drop i t) ≡ NotANumber
+  pub digits_bad : i < length t → base ≤ digit_of (get_or t i 0) → digits_of base v (drop i t) ≡ Err NotANumber
   unfolding digits_of all_digits ◌&◌
   digits_bad l d = rw (drop-cons t i 0 l, le-ltb _ _ d)
 
@@ -52,6 +52,6 @@ pub some_digits : (base : ℕ) (t : List ℕ) (i : ℕ) → i < length t → num
 unfolding number_in
 some_digits base t i l = rw (drop-cons t i 0 l)
 
-pub no_digits : (base : ℕ) (t : List ℕ) (i : ℕ) → length t ≤ i → number_in base (drop i t) ≡ NotANumber
+pub no_digits : (base : ℕ) (t : List ℕ) (i : ℕ) → length t ≤ i → number_in base (drop i t) ≡ Err NotANumber
 unfolding number_in
 no_digits base t i l = rw (drop_of_length-le t l)

@@ -8,37 +8,41 @@ use native.Mathlib.Omega.{arith}
 use lib.ListN.{drop, drop_of_length-le, get_or, length, length-drop, take}
 use lib.Seq.{drop-drop, take-nil}
 use borrow.Author.Tests.{not-true}
+use Rattle.words.specs.Tests.{choose}
 use Rattle.lines.proofs.Runs.{run_ends, run_within}
 use Rattle.lines.specs.Names.{Span}
-use Rattle.lines.specs.Spans.{blank, leading, past_run, solid, word_after}
+use Rattle.std.specs.List.{prefix_len}
+use Rattle.lines.specs.Spans.{blank, past_run, solid, word_after}
 use Rattle.lines.specs.Words.{goes_on, grown, words_of}
 
+one_more : (n : ℕ) → 1 + n ≡ suc n
+one_more n = omega arith
+
 -- ---- blanks in front do not matter
-skip : (l : List ℕ) → words_of l ≡ words_of (drop (leading blank l) l)
-unfolding leading words_of
+skip : (l : List ℕ) → words_of l ≡ words_of (drop (prefix_len blank l) l)
+unfolding words_of
 skip [] = refl
 skip (b ∷ bs) = go (blank b) refl (skip bs)
   where
-    go : (z : Bool) → blank b ≡ z → words_of bs ≡ words_of (drop (leading blank bs) bs) → words_of (b ∷ bs) ≡ words_of (drop (leading blank (b ∷ bs)) (b ∷ bs))
-    go true e ih = rw e ih
+    go : (z : Bool) → blank b ≡ z → words_of bs ≡ words_of (drop (prefix_len blank bs) bs) → words_of (b ∷ bs) ≡ words_of (drop (prefix_len blank (b ∷ bs)) (b ∷ bs))
+    go true e ih = rw (e, one_more (prefix_len blank bs)) ih
     go false e ih = rw (e, e)
 
 -- past them a word begins, unless the line is at its end
-begins : (l : List ℕ) → leading blank l < length l → goes_on (drop (leading blank l) l) ≡ true
-unfolding goes_on leading solid
+begins : (l : List ℕ) → prefix_len blank l < length l → goes_on (drop (prefix_len blank l) l) ≡ true
+unfolding goes_on
 begins [] h = absurd (omega arith)
 begins (b ∷ bs) h = go (blank b) refl (begins bs) h
   where
-    go : (z : Bool) → blank b ≡ z → (leading blank bs < length bs → goes_on (drop (leading blank bs) bs) ≡ true)
-        → leading blank (b ∷ bs) < suc (length bs) → goes_on (drop (leading blank (b ∷ bs)) (b ∷ bs)) ≡ true
-    go true e ih h = let k = rw e at h in rw e (ih (omega arith))
+    go : (z : Bool) → blank b ≡ z → (prefix_len blank bs < length bs → goes_on (drop (prefix_len blank bs) bs) ≡ true)
+        → prefix_len blank (b ∷ bs) < suc (length bs) → goes_on (drop (prefix_len blank (b ∷ bs)) (b ∷ bs)) ≡ true
+    go true e ih h = let k = rw e at h in rw (e, one_more (prefix_len blank bs)) (ih (omega arith))
     go false e ih h = rw (e, e)
 
 -- ---- the word in front
 module _ (b : ℕ) (bs : List ℕ) where
-  leading_on : (p : ℕ → Bool) → p b ≡ true → leading p (b ∷ bs) ≡ suc (leading p bs)
-  unfolding leading
-  leading_on p e = rw e
+  prefix_on : (p : ℕ → Bool) → p b ≡ true → prefix_len p (b ∷ bs) ≡ suc (prefix_len p bs)
+  prefix_on p e = rw e (omega arith)
 
   words_on : blank b ≡ false → goes_on bs ≡ true → words_of (b ∷ bs) ≡ grown b (words_of bs)
   unfolding words_of
@@ -48,36 +52,48 @@ module _ (b : ℕ) (bs : List ℕ) where
   unfolding words_of
   words_last e q = rw (e, q)
 
-leading_none : (l : List ℕ) → goes_on l ≡ false → leading solid l ≡ 0
-unfolding goes_on leading
-leading_none [] e = refl
-leading_none (b ∷ bs) e = rw e
+prefix_none : (l : List ℕ) → goes_on l ≡ false → prefix_len solid l ≡ 0
+unfolding goes_on
+prefix_none [] e = refl
+prefix_none (b ∷ bs) e = rw e
 
 solid_not : (b : ℕ) → solid b ≡ true → blank b ≡ false
-unfolding solid
 solid_not b e = not-true (blank b) e
 
-front : (l : List ℕ) → goes_on l ≡ true → words_of l ≡ take (leading solid l) l ∷ words_of (drop (leading solid l) l)
+front : (l : List ℕ) → goes_on l ≡ true → words_of l ≡ take (prefix_len solid l) l ∷ words_of (drop (prefix_len solid l) l)
 unfolding goes_on grown
 front [] e = absurd (false≢true e)
 front (b ∷ bs) e = go (goes_on bs) refl (front bs)
   where
-    go : (z : Bool) → goes_on bs ≡ z → (goes_on bs ≡ true → words_of bs ≡ take (leading solid bs) bs ∷ words_of (drop (leading solid bs) bs))
-        → words_of (b ∷ bs) ≡ take (leading solid (b ∷ bs)) (b ∷ bs) ∷ words_of (drop (leading solid (b ∷ bs)) (b ∷ bs))
-    go true q ih = words_on b bs (solid_not b e) q ∙ rw (ih q, leading_on b bs solid e)
-    go false q ih = words_last b bs (solid_not b e) q ∙ rw (leading_on b bs solid e, leading_none bs q)
+    go : (z : Bool) → goes_on bs ≡ z → (goes_on bs ≡ true → words_of bs ≡ take (prefix_len solid bs) bs ∷ words_of (drop (prefix_len solid bs) bs))
+        → words_of (b ∷ bs) ≡ take (prefix_len solid (b ∷ bs)) (b ∷ bs) ∷ words_of (drop (prefix_len solid (b ∷ bs)) (b ∷ bs))
+    go true q ih = words_on b bs (solid_not b e) q ∙ rw (ih q, prefix_on b bs solid e)
+    go false q ih = words_last b bs (solid_not b e) q ∙ rw (prefix_on b bs solid e, prefix_none bs q)
 
-filled : (l : List ℕ) → goes_on l ≡ true → 0 < leading solid l
+-- ---- word 0 is empty only where there is no word
+pub first_none : (l : List ℕ) → length (get_or (words_of l) 0 []) ≡ 0 → length (words_of l) ≡ 0
+unfolding words_of grown
+first_none [] h = refl
+first_none (b ∷ bs) h = go (blank b) (goes_on bs) (words_of bs) (first_none bs) h
+  where
+    go : (z y : Bool) (ws : List (List ℕ)) → (length (get_or ws 0 []) ≡ 0 → length ws ≡ 0)
+        → length (get_or (choose z ws (choose y (grown b ws) ((b ∷ []) ∷ ws))) 0 []) ≡ 0 → length (choose z ws (choose y (grown b ws) ((b ∷ []) ∷ ws))) ≡ 0
+    go true y ws ih h = ih h
+    go false true [] ih h = refl
+    go false true (w ∷ ws) ih h = absurd (omega arith)
+    go false false ws ih h = absurd (omega arith)
+
+filled : (l : List ℕ) → goes_on l ≡ true → 0 < prefix_len solid l
 unfolding goes_on
 filled [] e = absurd (false≢true e)
-filled (b ∷ bs) e = rw (leading_on b bs solid e) (omega arith)
+filled (b ∷ bs) e = rw (prefix_on b bs solid e) (omega arith)
 
 -- ---- the same by index: s is the first word from `at` on
 module _ (l : List ℕ) (at : ℕ) (within : at ≤ length l) (s : Span) (is : s ≡ word_after l at) where
-  starts : s.from ≡ at + leading blank (drop at l)
+  starts : s.from ≡ at + prefix_len blank (drop at l)
   starts = ap (λ (x : Span). x.from) is ∙ run_within blank l at within
 
-  ends : s.to ≡ s.from + leading solid (drop s.from l)
+  ends : s.to ≡ s.from + prefix_len solid (drop s.from l)
   ends = rw is (run_within solid l (past_run blank l at) (run_ends blank l at))
 
   skipped : words_of (drop at l) ≡ words_of (drop s.from l)
@@ -85,8 +101,8 @@ module _ (l : List ℕ) (at : ℕ) (within : at ≤ length l) (s : Span) (is : s
 
   on : s.from < length l → goes_on (drop s.from l) ≡ true
   on h =
-      let k : leading blank (drop at l) < length (drop at l) = rw length-drop (omega (arith, starts)) in
-      rw (starts, ← drop-drop (leading blank (drop at l)) at l) (begins (drop at l) k)
+      let k : prefix_len blank (drop at l) < length (drop at l) = rw length-drop (omega (arith, starts)) in
+      rw (starts, ← drop-drop (prefix_len blank (drop at l)) at l) (begins (drop at l) k)
 
   pub next_none : length l ≤ s.from → words_of (drop at l) ≡ []
   unfolding words_of
@@ -94,7 +110,7 @@ module _ (l : List ℕ) (at : ℕ) (within : at ≤ length l) (s : Span) (is : s
 
   pub next_word : s.from < length l → words_of (drop at l) ≡ take (s.to - s.from) (drop s.from l) ∷ words_of (drop s.to l)
   next_word h =
-      let k : s.to - s.from ≡ leading solid (drop s.from l) = omega (arith, ends) in
+      let k : s.to - s.from ≡ prefix_len solid (drop s.from l) = omega (arith, ends) in
       skipped ∙ front (drop s.from l) (on h) ∙ rw (k, ends, drop-drop)
 
   pub progress : s.from < length l → at < s.to

@@ -1,22 +1,19 @@
--- Two words are spelt alike just where they are equal.
-use mathlib.Core.Bool.{true, false≢true}
+-- How a word's letters tell which command it is.
+use mathlib.Core.Bool.{true}
 use mathlib.Core.List.{List, [], ◌∷◌}
-use mathlib.Core.Path.{◌≡◌, refl, ap₂}
+use mathlib.Core.Path.{◌≡◌, refl}
 use Prim.Native.Nat.{ℕ}
-use lib.Dec.{eqb}
-use borrow.Author.Tests.{eq-eqb, eqb-true}
-use Rattle.words.proofs.Tests.{and_left, and_right}
-use Rattle.words.specs.Tests.{◌&◌}
-use Rattle.lines.specs.Words.{same}
+use lib.ListN.{get_or, get_or-eq_default, length}
+use Rattle.digits.proofs.Classes.{above, below, inside}
+use Rattle.std.proofs.lemmas.Slice.Eq.{bytes_eq-Decides, text_from_reads}
+use Rattle.std.specs.Str.{bytes_eq}
 
-pub same_self : (xs : List ℕ) → same xs xs ≡ true
-unfolding same ◌&◌
-same_self [] = refl
-same_self (x ∷ xs) = rw (eq-eqb x x refl) (same_self xs)
+-- a word of four letters, read letter by letter
+module _ (w : List ℕ) (p q r s : ℕ) where
+  pub reads : bytes_eq w (p ∷ q ∷ r ∷ s ∷ []) ≡ true → (length w ≡ 4) × (get_or w 0 0 ≡ p) × (get_or w 1 0 ≡ q) × (get_or w 2 0 ≡ r) × (get_or w 3 0 ≡ s)
+  reads e = rw ((bytes_eq-Decides w (p ∷ q ∷ r ∷ s ∷ [])).0 e) (refl, refl, refl, refl, refl)
 
-pub same_equal : (xs ys : List ℕ) → same xs ys ≡ true → xs ≡ ys
-unfolding same
-same_equal [] [] e = refl
-same_equal [] (y ∷ ys) e = absurd (false≢true e)
-same_equal (x ∷ xs) [] e = absurd (false≢true e)
-same_equal (x ∷ xs) (y ∷ ys) e = ap₂ ◌∷◌ (eqb-true x y (and_left _ _ e)) (same_equal xs ys (and_right (eqb x y) _ e))
+  pub read : length w ≡ 4 → get_or w 0 0 ≡ p → get_or w 1 0 ≡ q → get_or w 2 0 ≡ r → get_or w 3 0 ≡ s → bytes_eq w (p ∷ q ∷ r ∷ s ∷ []) ≡ true
+  read n a b c d = (bytes_eq-Decides w (p ∷ q ∷ r ∷ s ∷ [])).1 (text_from_reads w (p ∷ q ∷ r ∷ s ∷ []) n (a, (b, (c, (d, tt)))))
+
+pub ruleset spelling = (reads, read, above, below, inside, get_or-eq_default)

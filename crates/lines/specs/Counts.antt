@@ -2,6 +2,6 @@
 use Rattle.std.specs.Prelude.{ℕ, ℤ, pos, negsuc}
 
 -- a refusal, which is negative, counts nothing
-unfoldable pub count_of : ℤ → ℕ
+abbrev pub count_of : ℤ → ℕ
 count_of (pos k) = k
 count_of (negsuc k) = 0

@@ -1,14 +1,15 @@
 -- Where the words of a line stand: "Words of a line stand apart by spaces or tabs."
-use Rattle.std.specs.Prelude.{Bool, true, false, not, List, [], ◌∷◌, ℕ, suc, ◌+◌, min, eqb, drop, length}
-use Rattle.words.specs.Tests.{◌or◌, choose}
+use Rattle.std.specs.Prelude.{Bool, true, false, not, List, ℕ, ◌+◌, min, eqb, drop, length}
+use Rattle.std.specs.List.{prefix_len}
+use Rattle.words.specs.Tests.{◌or◌}
 use Rattle.lines.specs.Names.{Span}
 
 -- a space or a tab
-unfoldable pub blank : ℕ → Bool
+abbrev pub blank : ℕ → Bool
 blank b = eqb b 32 or eqb b 9
 
 -- a byte of a word
-unfoldable pub solid : ℕ → Bool
+abbrev pub solid : ℕ → Bool
 solid b = not (blank b)
 
 -- the two sorts of run that make up a line
@@ -16,14 +17,9 @@ abbrev pub passing : Bool → ℕ → Bool
 passing true = blank
 passing false = solid
 
--- how many bytes at the front pass a test
-unfoldable pub leading : (ℕ → Bool) → List ℕ → ℕ
-leading p [] = 0
-leading p (b ∷ bs) = choose (p b) (suc (leading p bs)) 0
-
 -- the first index at or after `at` whose byte does not pass, or the length
 unfoldable pub past_run : (ℕ → Bool) → List ℕ → ℕ → ℕ
-past_run p line at = min at (length line) + leading p (drop at line)
+past_run p line at = min at (length line) + prefix_len p (drop at line)
 
 -- past the blanks, and from there past the bytes of the word
 abbrev pub word_after : List ℕ → ℕ → Span

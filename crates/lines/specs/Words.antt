@@ -1,6 +1,6 @@
 -- The words of a line, from the left: the longest runs of bytes that are neither spaces nor tabs.
-use Rattle.std.specs.Prelude.{Bool, true, false, List, [], ◌∷◌, ℕ, eqb}
-use Rattle.words.specs.Tests.{◌&◌, choose}
+use Rattle.std.specs.Prelude.{Bool, false, List, [], ◌∷◌, ℕ}
+use Rattle.words.specs.Tests.{choose}
 use Rattle.lines.specs.Spans.{blank, solid}
 
 -- a word that ends before these bytes goes on in them
@@ -19,10 +19,3 @@ words_of [] = []
 words_of (b ∷ bs) =
     choose (blank b) (words_of bs)
     (choose (goes_on bs) (grown b (words_of bs)) ((b ∷ []) ∷ words_of bs))
-
--- two words are spelt alike
-unfoldable pub same : List ℕ → List ℕ → Bool
-same [] [] = true
-same [] (y ∷ ys) = false
-same (x ∷ xs) [] = false
-same (x ∷ xs) (y ∷ ys) = eqb x y & same xs ys

@@ -6,8 +6,5 @@ ghost use Rattle.lines.specs.Counts.{count_of};
 pub fn count_of(answer: i32) -> u32
     ensures { result ≡ count_of answer }
 {
-    if answer < 0 {
-        return 0;
-    }
-    answer as u32
+    u32::try_from(answer).unwrap_or(0)
 }

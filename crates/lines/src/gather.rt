@@ -5,45 +5,28 @@ ghost use Rattle.lines.specs.Gather.{gathered, stored};
 // "Lines of more than 1,024 bytes are refused": how long a line may be, and the length that stands for any longer one.
 pub const LINE_LENGTH: usize = 1024;
 
+// The clause `value` holds it, so it stays a length and no kind of its own.
 const LONGER: usize = LINE_LENGTH + 1;
 
-// How many bytes the line has so far, 1,025 standing for any more than 1,024, and whether it is ended.
-#[derive(Clone, Copy)]
-pub struct Gathered {
-    pub length: usize,
-    pub ended: bool,
-}
-
-// The byte after the `length` bytes that the buffer has of the line.
-pub fn gather(line: &mut [u8; LINE_LENGTH], length: usize, byte: u8) -> Gathered
+// The byte after the `length` bytes that the buffer has of the line: how many it has then, 1,025 standing for any more than 1,024;
+// None where the byte ends the line.
+pub fn gather(line: &mut [u8; LINE_LENGTH], length: usize, byte: u8) -> Option<usize>
     ensures value { result ≡ gathered length byte }
     ensures stored { line.new ≡ stored line.old length byte }
 {
     if byte == b'\n' {
-        return Gathered {
-            length,
-            ended: true,
-        };
+        return None;
     }
     if length < LINE_LENGTH {
         line[length] = byte;
-        return Gathered {
-            length: length + 1,
-            ended: false,
-        };
+        return Some(length + 1);
     }
-    Gathered {
-        length: LONGER,
-        ended: false,
-    }
+    Some(LONGER)
 }
 
 // The first n bytes; all of them where there are not so many.
 pub fn first(text: &[u8], n: usize) -> &[u8]
     ensures { result.now ≡ take n text.now }
 {
-    if n <= text.len() {
-        return &text[..n];
-    }
-    text
+    &text[..n.min(text.len())]
 }

@@ -2,7 +2,6 @@
 // line makes.
 #![tactic(auto)]
 
-mod bytes;
 pub mod counts;
 mod forms;
 pub mod gather;

@@ -1,57 +1,43 @@
 // A number as a person types it: decimal, or hexadecimal after `0x`.
-ghost use Rattle.std.specs.Prelude.{◌≡◌, ◌≤◌, min, drop};
+ghost use Rattle.std.specs.Prelude.{◌≡◌, ◌≤◌};
 ghost use Rattle.lines.specs.Numbers.{number_in, number_of};
 
-use crate::bytes::byte_at;
 use digits::digit;
 
+// Why a word is no number that a line can give.
 #[derive(Clone, Copy)]
-pub enum Number {
-    Value(u32),
+pub enum NumberFault {
     NotANumber,
     TooLarge,
 }
 
 // Every value above 4294967295 ends alike, so one stands for all and no later sum wraps.
-fn capped(v: u64) -> u64
-    ensures { result ≡ min v 4294967296 }
-{
-    if v <= 4294967296 { v } else { 4294967296 }
-}
+const TOO_LARGE: u64 = 4294967296;
 
-// The characters from `from` on, as digits of `base`.
-fn digits_from(text: &[u8], from: usize, base: u64) -> Number
+// The characters as digits of `base`.
+fn digits_in(text: &[u8], base: u64) -> Result<u32, NumberFault>
     requires { (1 ≤ base) × (base ≤ 16) }
-    ensures { result ≡ number_in base (drop from text.now) }
+    ensures { result ≡ number_in base text.now }
 {
-    if text.len() <= from {
-        return Number::NotANumber;
+    if text.is_empty() {
+        return Err(NumberFault::NotANumber);
     }
-    let mut v: u64 = 0;
-    let mut i = from;
-    while i < text.len() {
-        let d = digit(text[i]) as u64;
+    let mut v = 0;
+    for &b in text {
+        let d = u64::from(digit(b));
         if base <= d {
-            return Number::NotANumber;
+            return Err(NumberFault::NotANumber);
         }
-        v = capped(v * base + d);
-        i += 1;
+        v = (v * base + d).min(TOO_LARGE);
     }
-    if v <= 4294967295 {
-        Number::Value(v as u32)
-    } else {
-        Number::TooLarge
-    }
+    u32::try_from(v).or(Err(NumberFault::TooLarge))
 }
 
-pub fn number_in(text: &[u8]) -> Number
+pub fn number_in(text: &[u8]) -> Result<u32, NumberFault>
     ensures { result ≡ number_of text.now }
 {
-    if byte_at(text, 0) != b'0' {
-        return digits_from(text, 0, 10);
+    match text {
+        [b'0', b'x', digits @ ..] => digits_in(digits, 16),
+        _ => digits_in(text, 10),
     }
-    if byte_at(text, 1) != b'x' {
-        return digits_from(text, 0, 10);
-    }
-    digits_from(text, 2, 16)
 }

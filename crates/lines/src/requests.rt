@@ -3,8 +3,7 @@ ghost use Rattle.std.specs.Prelude.{◌≡◌, length};
 ghost use Rattle.lines.specs.Words.{words_of};
 ghost use Rattle.lines.specs.Requests.{asked_by, name_in, request_from, request_of, unreturned};
 
-use crate::bytes::{byte_at, is};
-use crate::forms::{call_in, command, file_command, tick_in};
+use crate::forms::{call_in, formed, tick_in};
 use crate::split::{word, word_count};
 
 // What is wrong in a line. Words are numbered from 1; Count has how many there are.
@@ -40,68 +39,45 @@ pub enum Request {
     Load,
     Tick(u32),
     Call(Call),
-    Unreadable(Fault),
 }
 
 // "A carriage return before the line's end is not read."
 fn without_return(line: &[u8]) -> &[u8]
     ensures { result.now ≡ unreturned line.now }
 {
-    if line.len() == 0 {
-        return line;
+    match line {
+        [front @ .., b'\r'] => front,
+        _ => line,
     }
-    let last = line.len() - 1;
-    if line[last] != b'\r' {
-        return line;
-    }
-    &line[..last]
 }
 
 // By the first word of the n: a command, or a call, which begins with a digit.
-fn asked_by(first: &[u8], text: &[u8], n: usize) -> Request
+#[tactic(auto, using(crate::proofs::Spelling::spelling), unfolding(crate::specs::Requests::asked_by))]
+fn asked_by(first: &[u8], text: &[u8], n: usize) -> Result<Request, Fault>
     requires { n ≡ length (words_of text.now) }
     ensures { result ≡ asked_by first.now (words_of text.now) }
 {
-    if is(first, b"boot") {
-        return command(n, Request::Boot, Fault::AfterBoot);
+    match first {
+        b"boot" => formed(1, n, Request::Boot, Fault::AfterBoot),
+        b"show" => formed(1, n, Request::Show, Fault::AfterShow),
+        b"save" => formed(2, n, Request::Save, Fault::SaveForm),
+        b"load" => formed(2, n, Request::Load, Fault::LoadForm),
+        b"tick" => tick_in(text, n),
+        [b'0'..=b'9', ..] => call_in(text, n),
+        _ => Err(Fault::Start),
     }
-    if is(first, b"show") {
-        return command(n, Request::Show, Fault::AfterShow);
-    }
-    if is(first, b"save") {
-        return file_command(n, Request::Save, Fault::SaveForm);
-    }
-    if is(first, b"load") {
-        return file_command(n, Request::Load, Fault::LoadForm);
-    }
-    if is(first, b"tick") {
-        return tick_in(text, n);
-    }
-    let b = byte_at(first, 0);
-    if b < b'0' {
-        return Request::Unreadable(Fault::Start);
-    }
-    if b'9' < b {
-        return Request::Unreadable(Fault::Start);
-    }
-    call_in(text, n)
 }
 
-fn words_ask(text: &[u8]) -> Request
+fn words_ask(text: &[u8]) -> Result<Request, Fault>
     ensures { result ≡ request_from (words_of text.now) }
 {
-    let n = word_count(text);
-    if n == 0 {
-        return Request::Nothing;
+    match word(text, 0) {
+        [] | [b'#', ..] => Ok(Request::Nothing),
+        first => asked_by(first, text, word_count(text)),
     }
-    let first = word(text, 0);
-    if byte_at(first, 0) == b'#' {
-        return Request::Nothing;
-    }
-    asked_by(first, text, n)
 }
 
-pub fn request_in(line: &[u8]) -> Request
+pub fn request_in(line: &[u8]) -> Result<Request, Fault>
     ensures { result ≡ request_of line.now }
 {
     words_ask(without_return(line))

@@ -12,31 +12,26 @@ pub struct Span {
 fn is_blank(b: u8) -> bool
     ensures { result ≡ blank b }
 {
-    match b {
-        b' ' => true,
-        b'\t' => true,
-        _ => false,
-    }
+    matches!(b, b' ' | b'\t')
 }
 
 fn passes(blanks: bool, b: u8) -> bool
     ensures { result ≡ passing blanks b }
 {
-    if blanks { is_blank(b) } else { !is_blank(b) }
+    is_blank(b) == blanks
 }
 
 // Where the run that stands at `at` ends: of blanks, or of the bytes of a word.
 fn past_run(blanks: bool, line: &[u8], at: usize) -> usize
     ensures { result ≡ past_run (passing blanks) line.now at }
 {
-    let mut i = at;
-    while i < line.len() {
-        if !passes(blanks, line[i]) {
-            return i;
-        }
-        i += 1;
-    }
-    line.len()
+    let start = at.min(line.len());
+    let rest = &line[start..];
+    start
+        + rest
+            .iter()
+            .position(|&b| !passes(blanks, b))
+            .unwrap_or(rest.len())
 }
 
 // The first word that begins at or after `at`; empty, at the line's end, where there is none.

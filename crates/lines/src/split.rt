@@ -2,20 +2,20 @@
 ghost use Rattle.std.specs.Prelude.{◌≡◌, [], get_or, length};
 ghost use Rattle.lines.specs.Words.{words_of};
 
-use crate::spans::word_after;
+use crate::spans::{Span, word_after};
 
+// Each turn goes on behind a word, so no range gives the places.
 pub(crate) fn word_count(line: &[u8]) -> usize
     ensures { result ≡ length (words_of line.now) }
 {
-    let mut n: usize = 0;
-    let mut at: usize = 0;
+    let mut n = 0;
+    let mut at = 0;
     while at < line.len() {
-        let s = word_after(line, at);
-        let from = s.from;
-        if line.len() <= from {
+        let Span { from, to } = word_after(line, at);
+        if from == line.len() {
             return n;
         }
-        at = s.to;
+        at = to;
         n += 1;
     }
     n
@@ -25,15 +25,10 @@ pub(crate) fn word_count(line: &[u8]) -> usize
 pub(crate) fn word(line: &[u8], k: usize) -> &[u8]
     ensures { result.now ≡ get_or (words_of line.now) k [] }
 {
-    let mut at: usize = 0;
-    let mut left = k;
-    while 0 < left {
-        let s = word_after(line, at);
-        at = s.to;
-        left -= 1;
+    let mut at = 0;
+    for _ in 0..k {
+        at = word_after(line, at).to;
     }
-    let s = word_after(line, at);
-    let from = s.from;
-    let to = s.to;
+    let Span { from, to } = word_after(line, at);
     &line[from..to]
 }

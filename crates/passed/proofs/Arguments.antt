@@ -15,20 +15,20 @@ use Rattle.words.specs.Refusals.{number}
 use Rattle.words.specs.Rights.{is_blank, is_root}
 use Rattle.words.specs.Try.{Try}
 use Rattle.passed.specs.Found.{By, Found, Plot, Stands, Vacant, spanned, stretched}
-use Rattle.passed.specs.Names.{Blank, CapNull, CapType, Capability, CapabilityNumber, Endpoint, Holds, KernelAddress, Kind, Place, Process, Refusal, Slot, Spot, Stretch, Table}
+use Rattle.passed.specs.Names.{None, CapNull, CapType, Capability, CapabilityNumber, Endpoint, Some, KernelAddress, Kind, Place, Process, Refusal, Slot, Spot, Stretch, Table}
 use Rattle.passed.specs.Passed.{ByTop}
 use Rattle.passed.proofs.Given.{Given, asked, bind, given, is_bad_state, refused, seq, test, then}
 use Rattle.passed.proofs.OfKind.{is_directory, is_endpoint, is_memory, is_process, is_table}
 
-pub is_blank_lem : (p : Place) → is_blank p ≡ true → p ≡ Blank
-is_blank_lem Blank h = refl
-is_blank_lem (Holds c) h = absurd (false≢true h)
+pub is_blank_lem : (p : Place) → is_blank p ≡ true → p ≡ None
+is_blank_lem None h = refl
+is_blank_lem (Some c) h = absurd (false≢true h)
 
 module _ (st : State) (t : Slot) where
   -- ---- capability numbers
-  is_held : (r : Refusal) → is_bad_state (number r) ≡ false → (p : Place) → Given (filled r p) (λ c. p ≡ Holds c)
-  is_held r s Blank = refused s
-  is_held r s (Holds c) = given refl
+  is_held : (r : Refusal) → is_bad_state (number r) ≡ false → (p : Place) → Given (filled r p) (λ c. p ≡ Some c)
+  is_held r s None = refused s
+  is_held r s (Some c) = given refl
 
   right_at_lem : (u : Slot) (e : ℕ) → Given (right_at st u e) (Stands st (spot u e))
   unfolding right_at

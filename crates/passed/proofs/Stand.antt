@@ -14,13 +14,11 @@ use Rattle.rules.specs.Places.{spot}
 use Rattle.rules.specs.WellFormed.{ends_ok, names, object_no, right, right_ok, still, wf}
 use Rattle.state.specs.State.{State, obj_at}
 use Rattle.words.proofs.Tests.{and_left, and_right}
-use Rattle.words.specs.Answers.{told_stretch}
+use Rattle.words.specs.Try.{Try, Ok}
 use Rattle.words.specs.Sizes.{kernel_end, kernel_start, slot_count}
 use Rattle.passed.specs.Found.{By, Plot, Stands, stretched}
 use Rattle.passed.specs.Names.{Capability, Directory, Endpoint, Function, Kind, Memory, Process, Slot, Spot, Stretch, Table}
 use Rattle.passed.proofs.Arguments.{by_memory}
-use Rattle.words.specs.declared.answers.StretchAnswer.{StretchAnswer}
-use Rattle.words.specs.declared.answers.StretchAnswer.TheVariants as stretch
 
 -- what a right of the kind k shows
 abbrev pub Standing : State → Kind → Type 0
@@ -64,5 +62,5 @@ module _ (st : State) (w : Formed (still st)) where
       omega (arith, r.0, r.1)
 
 -- what a creation asks of its memory before its address is judged
-pub memory_found : (st : State) (t : Slot) (v f : ℕ) {a : StretchAnswer} {m : Stretch} → wf st ≡ true → told_stretch a ≡ memory_arg st t v f → a ≡ stretch.Found m → (kernel_start ≤ m.low.0) × (m.high.0 ≤ kernel_end)
-memory_found st t v f {m = m} w told found = stands_found st (wf_open st w).shape ((by_memory st t v f).of m (sym told ∙ ap told_stretch found))
+pub memory_found : (st : State) (t : Slot) (v f : ℕ) {a : Try Stretch} {m : Stretch} → wf st ≡ true → a ≡ memory_arg st t v f → a ≡ Ok m → (kernel_start ≤ m.low.0) × (m.high.0 ≤ kernel_end)
+memory_found st t v f {m = m} w told found = stands_found st (wf_open st w).shape ((by_memory st t v f).of m (sym told ∙ found))

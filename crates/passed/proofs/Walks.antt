@@ -17,9 +17,9 @@ use Rattle.words.specs.Fields.{D0, D1, call_number, slot}
 use Rattle.words.specs.Refusals.{number}
 use Rattle.words.specs.Rights.{inside, some_range, subset}
 use Rattle.words.specs.Tests.{choose}
-use Rattle.words.specs.Try.{Try, ok! }
+use Rattle.words.specs.Try.{Try, Ok}
 use Rattle.passed.specs.Found.{By, Plot, spanned, stretched}
-use Rattle.passed.specs.Names.{Action, Capability, Child, Empty, Endpoint, Kind, Page, PgtMap, Position, Process, Refusal, Slot, Span, Spot, Table, Thawed, Under, Words}
+use Rattle.passed.specs.Names.{Action, Capability, Child, Empty, Endpoint, Kind, Page, PgtMap, Position, Process, Refusal, Slot, Span, Spot, Table, Thawed, Some, Words}
 use Rattle.passed.specs.Passed.{Becomes, Creation, Deletion, Doomed, Mapped, Passed, PassedCall, PositionSet, Removal, a_directory, a_process, a_table, an_endpoint}
 use Rattle.passed.proofs.Arguments.{Deleting, Filling, by_directory, by_endpoint, by_memory, by_process, by_table, by_top, deleting, filling, looked_up, plotted, removing, thawed}
 use Rattle.passed.proofs.Given.{Given, bind, given, is_bad_state, refused, seq, test, then}
@@ -55,7 +55,7 @@ module _ (st : State) (t : Slot) where
     range : some_range (asked_kind c.kind w) ≡ true
     within : inside (asked_kind c.kind w) c.kind ≡ true
     frost : g.frost ≡ Thawed
-    origin : g.origin ≡ Under p
+    origin : g.origin ≡ Some p
 
   grant : (w : Words) (c : Capability) (p : ℕ) → Given (granted c p w) (Grown w c p)
   unfolding granted
@@ -302,5 +302,5 @@ plan_given st caller w =
     bind (caller_is (obj_at st (slot caller))) λ t c. then (call_passed st t (call_number w) w) λ a h.
     record { table = t; directory = c.0; named = c.1; shown = h }
 
-pub passed : (st : State) (caller : ℕ) (w : Words) (a : Action) → plan st caller w ≡ ok! a → PassedCall st caller w a
+pub passed : (st : State) (caller : ℕ) (w : Words) (a : Action) → plan st caller w ≡ Ok a → PassedCall st caller w a
 passed st caller w = (plan_given st caller w).of

@@ -9,7 +9,7 @@ use Rattle.words.specs.Fields.{slot}
 use Rattle.words.specs.Rights.{inside, is_root, some_range, subset}
 use Rattle.words.specs.Sizes.{entry_size, header_size, most_entries, position_size, slots_for}
 use Rattle.passed.specs.Found.{By, Plot, Stands, Vacant, spanned, stretched}
-use Rattle.passed.specs.Names.{Action, Answer, Capability, ChangeDirectory, ChangeTable, Child, Count, CreateDirectory, CreateEndpoint, CreateProcess, CreateTable, Delete, Directory, Empty, Endpoint, Fill, Frame, Freeze, Geometry, Kind, Page, Position, Process, Remove, SetCount, SetPosition, Slot, Span, Spot, Stretch, Table, Thawed, Under, Words}
+use Rattle.passed.specs.Names.{Action, Answer, Capability, ChangeDirectory, ChangeTable, Child, Count, CreateDirectory, CreateEndpoint, CreateProcess, CreateTable, Delete, Directory, Empty, Endpoint, Fill, Frame, Freeze, Geometry, Kind, Page, Position, Process, Remove, SetCount, SetPosition, Slot, Span, Spot, Stretch, Table, Thawed, Some, Words}
 
 -- ---- creations: n slots from s on, the root at p
 pub record Creation (st : State) (t : Slot) (p : Spot) (s : Slot) (n : ℕ) : Type 0 where
@@ -71,7 +71,7 @@ pub record Delegation (st : State) (t : Slot) (w : Words) (p : Spot) (g : Capabi
   pub range : some_range (asked_kind right.kind w) ≡ true
   pub within : inside (asked_kind right.kind w) right.kind ≡ true
   pub frost : g.frost ≡ Thawed
-  pub origin : g.origin ≡ Under (place_number source)
+  pub origin : g.origin ≡ Some (place_number source)
 
 -- ---- freeze and remove
 pub record Freezing (st : State) (t : Slot) (p : Spot) : Type 0 where

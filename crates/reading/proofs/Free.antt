@@ -2,7 +2,7 @@
 use mathlib.Core.Path.{◌≡◌, refl, ap}
 use mathlib.Core.Bool.{Bool, true, false}
 use mathlib.Core.List.{List}
-use Prim.Native.Nat.{ℕ, ◌+◌, ◌<◌, ◌≤◌}
+use Prim.Native.Nat.{ℕ, ◌+◌, ◌-◌, ◌<◌, ◌≤◌, min}
 use native.Mathlib.Omega.{arith}
 use lib.Dec.{leb}
 use borrow.Author.Tests.{leb-true, leb-false}
@@ -19,22 +19,13 @@ use Rattle.reading.specs.Names.{Slot}
 abbrev pub free_after : List ℕ → Slot → ℕ → Bool
 free_after b k i = is_free (obj_at (read b) (slot (k.0 + i)))
 
-module _ (b : List ℕ) (k : Slot) (n i : ℕ) (so_far : all_below i (free_after b k) ≡ true) where
-  rest : ((j : ℕ) → j < n → i ≤ j → free_after b k j ≡ true) → all_below n (free_after b k) ≡ true
-  rest f = all_of n (free_after b k) (λ j h. pick j h (leb i j) refl)
+-- where the slots before i are free, and none of the n is left from i on
+module _ (b : List ℕ) (k : Slot) (n i : ℕ) (so_far : all_below i (free_after b k) ≡ true) (end : min n (slot_count - k.0) ≤ i) where
+  pub free_all : all_below n (free_after b k) ≡ true
+  free_all = all_of n (free_after b k) (λ j h. pick j h (leb i j) refl)
     where
       pick : (j : ℕ) → j < n → (z : Bool) → leb i j ≡ z → free_after b k j ≡ true
-      pick j h true e = f j h (leb-true i j e)
+      pick j h true e = let m : i ≤ j = leb-true i j e in
+          let q : slot_count ≤ k.0 + j = omega arith in
+          ap is_free (object_past b (slot (k.0 + j)) q)
       pick j h false e = all_at i (free_after b k) so_far j (leb-false i j e)
-
-  pub free_all : n ≤ i → all_below n (free_after b k) ≡ true
-  free_all h = rest (λ j l m. absurd (no j l m))
-    where
-      no : (j : ℕ) → j < n → i ≤ j → ⊥
-      no j l m = omega arith
-
-  pub free_past : slot_count ≤ k.0 + i → all_below n (free_after b k) ≡ true
-  free_past h = rest (λ j l m. past j m)
-    where
-      past : (j : ℕ) → i ≤ j → free_after b k j ≡ true
-      past j m = let q : slot_count ≤ k.0 + j = omega arith in ap is_free (object_past b (slot (k.0 + j)) q)

@@ -1,2 +1,4 @@
+pub mod ByKind
+pub mod Tagged
 pub mod Free
 pub mod Tight

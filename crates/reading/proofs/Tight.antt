@@ -17,6 +17,12 @@ clock κs a x y v w p q = (cc, refl)
 pub positions_in : Determined contracts.directories.positions_in.ended reading.directories.positions_in.Reads.Learnt
 positions_in κs a x y v w p q = (cc, refl)
 
+pub positions_for : Determined contracts.directories.positions_for.ended reading.directories.positions_for.Reads.Learnt
+positions_for κs a x y v w p q = (cc, refl)
+
+pub directory_slots : DeterminedAs contracts.directories.directory_slots.ended (λ κs x. x.now) reading.directories.directory_slots.Reads.Learnt
+directory_slots κs a x y v w p q = (cc, refl)
+
 pub position_at : Determined contracts.directories.position_at.ended reading.directories.position_at.Reads.Learnt
 position_at κs a x y v w p q = (cc, refl)
 
@@ -58,6 +64,9 @@ directory_named κs a x y v w p q = (cc, refl)
 
 pub entries_in : Determined contracts.tables.entries_in.ended reading.tables.entries_in.Reads.Learnt
 entries_in κs a x y v w p q = (cc, refl)
+
+pub table_slots : DeterminedAs contracts.tables.table_slots.ended (λ κs x. x.now) reading.tables.table_slots.Reads.Learnt
+table_slots κs a x y v w p q = (cc, refl)
 
 pub place_at : Determined contracts.tables.place_at.ended reading.tables.place_at.Reads.Learnt
 place_at κs a x y v w p q = (cc, refl)

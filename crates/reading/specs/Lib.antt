@@ -1,1 +1,3 @@
 pub mod Names
+pub mod Tagged
+pub mod Kinds

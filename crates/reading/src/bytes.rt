@@ -3,7 +3,6 @@ ghost use Rattle.std.specs.Prelude.{◌≡◌, ◌*◌, ◌≤◌, get_or, take,
 ghost use Rattle.words.specs.Sizes.{slot_size};
 ghost use Rattle.state.specs.Read.{word_at};
 
-use words::fields::{BYTE, HALF, THREE_BYTES};
 use words::layout::WORD_SIZE;
 use words::numbers::Slot;
 use words::sizes::SLOT_SIZE;
@@ -11,16 +10,17 @@ use words::sizes::SLOT_SIZE;
 pub(crate) fn byte_at(s: &[u8], at: usize) -> u8
     ensures { result ≡ get_or s.now at 0 }
 {
-    if at < s.len() { s[at] } else { 0 }
+    s.get(at).copied().unwrap_or(0)
 }
 
 fn joined(a: u8, b: u8, c: u8, d: u8) -> u32
     ensures { result ≡ Rattle.state.specs.Read.joined a b c d }
 {
-    (a as u32) + (b as u32) * BYTE + (c as u32) * HALF + (d as u32) * THREE_BYTES
+    u32::from_le_bytes([a, b, c, d])
 }
 
 // Four bytes, the lowest first. Where all four lie in the buffer, one test serves for them.
+#[tactic(auto, unfolding(state::specs::Read::word_at))]
 pub fn word_at(s: &[u8], at: usize) -> u32
     requires { at ≤ 65535 }
     ensures { result ≡ word_at s.now at }
@@ -40,10 +40,7 @@ pub fn word_at(s: &[u8], at: usize) -> u32
 pub(crate) fn marked(w: u32) -> bool
     ensures { result ≡ Rattle.state.specs.Read.marked w }
 {
-    match w {
-        0 => false,
-        _ => true,
-    }
+    w != 0
 }
 
 // "hands on just its slots, a part from the middle of the lent state": n slots from slot k on, as far as the buffer has them.
@@ -52,11 +49,5 @@ pub fn slots_from(s: &[u8], k: Slot, n: u16) -> &[u8]
 {
     let a = SLOT_SIZE * (k.0 as usize);
     let e = a + SLOT_SIZE * (n as usize);
-    if e <= s.len() {
-        return &s[a..e];
-    }
-    if a <= s.len() {
-        return &s[a..];
-    }
-    &s[0..0]
+    &s[a.min(s.len())..e.min(s.len())]
 }

@@ -5,6 +5,7 @@ ghost use Rattle.state.specs.Read.{read};
 use crate::bytes::word_at;
 use words::sizes::CLOCK_OFFSET;
 
+#[tactic(auto, unfolding(state::specs::Read::read))]
 pub fn clock(s: &[u8]) -> u32
     ensures { result ≡ (read s.now).clock }
 {

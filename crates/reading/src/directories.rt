@@ -11,45 +11,36 @@ use words::capabilities::{Geometry, Position};
 use words::layout::{DIRECTORY_TAG, START_AT, TOP_AT};
 use words::numbers::Slot;
 use words::sizes::{
-    HEADER_SIZE, HEADER_SIZE_U16, MOST_NUMBER_ORDER_U8, POSITION_SIZE, POSITION_SIZE_U16,
-    SLOT_REST_U16, SLOT_SIZE_U16,
+    HEADER_SIZE, HEADER_SIZE_U32, MOST_NUMBER_ORDER, POSITION_SIZE, POSITION_SIZE_U32, slots_for,
 };
 
 // "2^k entries, k from 1 to 8"; none for a number order above 8
-fn positions_for(k: u8) -> u16
-    ensures { (result ≡ positions_for k) × (result ≤ 256) }
+pub fn positions_for(k: u32) -> u32
+    ensures { result ≡ positions_for k }
 {
-    if k <= MOST_NUMBER_ORDER_U8 {
-        return 1 << k;
-    }
-    0
+    if k <= MOST_NUMBER_ORDER { 1 << k } else { 0 }
 }
 
 // How many positions the directory in a slot has; none where there is no directory.
-fn positions_there(s: &[u8], d: Slot) -> u16
-    ensures { (result ≡ positions_in (read s.now) d) × (result ≤ 256) }
-{
-    if tag_byte(s, d) == DIRECTORY_TAG {
-        return positions_for(argument_byte(s, d));
-    }
-    0
-}
-
 pub fn positions_in(s: &[u8], d: Slot) -> u32
     ensures { result ≡ positions_in (read s.now) d }
 {
-    positions_there(s, d) as u32
+    if tag_byte(s, d) == DIRECTORY_TAG {
+        positions_for(argument_byte(s, d) as u32)
+    } else {
+        0
+    }
 }
 
-// "(32 + 8·2^k) bytes, rounded up"
-fn directory_part(s: &[u8], d: Slot, positions: u16) -> &[u8]
+// "hands on just its slots": those of a directory with so many positions, "(32 + 8·2^k) bytes, rounded up".
+pub fn directory_slots(s: &[u8], d: Slot, positions: u32) -> &[u8]
     requires { positions ≤ 256 }
     ensures { result.now ≡ take (slot_size * slots_for (header_size + position_size * positions)) (drop (slot_size * d.0) s.now) }
 {
     slots_from(
         s,
         d,
-        (HEADER_SIZE_U16 + POSITION_SIZE_U16 * positions + SLOT_REST_U16) / SLOT_SIZE_U16,
+        slots_for(HEADER_SIZE_U32 + POSITION_SIZE_U32 * positions) as u16,
     )
 }
 
@@ -57,11 +48,11 @@ fn directory_part(s: &[u8], d: Slot, positions: u16) -> &[u8]
 pub fn position_at(s: &[u8], d: Slot, i: u32) -> Position
     ensures { result ≡ position_at (read s.now) d i }
 {
-    let n = positions_there(s, d);
-    if n as u32 <= i {
+    let positions = positions_in(s, d);
+    if positions <= i {
         return Position::Empty;
     }
-    let part = directory_part(s, d, n);
+    let part = directory_slots(s, d, positions);
     position_of(part, HEADER_SIZE + POSITION_SIZE * (i as usize))
 }
 
@@ -72,17 +63,18 @@ pub fn shape_at(s: &[u8], d: Slot) -> Geometry
 {
     if tag_byte(s, d) == DIRECTORY_TAG {
         let part = slots_from(s, d, 1);
-        return Geometry {
+        Geometry {
             size: word_at(part, 0),
             number: argument_byte(s, d) as u32,
             top: marked(word_at(part, TOP_AT)),
             start: word_at(part, START_AT),
-        };
-    }
-    Geometry {
-        size: 0,
-        number: 0,
-        top: false,
-        start: 0,
+        }
+    } else {
+        Geometry {
+            size: 0,
+            number: 0,
+            top: false,
+            start: 0,
+        }
     }
 }

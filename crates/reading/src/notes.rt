@@ -28,6 +28,7 @@ pub fn argument_byte(s: &[u8], k: Slot) -> u8
 }
 
 // What stands in a slot: 0 nothing, 1 an object that goes on, 2 a table, 3 a directory, 4 a process, 5 an endpoint. That is the last tag.
+// The kinds are numbers here, and no enum: they are the layout's (docs/LAYOUT.md), and `tag_of` of state/specs/Bytes.antt gives them.
 pub fn tag_at(s: &[u8], k: Slot) -> u8
     ensures { result ≡ tag_of (obj_at (read s.now) k) }
 {
@@ -46,9 +47,10 @@ pub fn first_at(s: &[u8], k: Slot) -> Slot
     ensures { result ≡ first_of k.0 (obj_at (read s.now) k) }
 {
     if tag_byte(s, k) == LATER_TAG {
-        return Slot(argument_byte(s, k));
+        Slot(argument_byte(s, k))
+    } else {
+        k
     }
-    k
 }
 
 fn free_after(s: &[u8], k: Slot, i: u32) -> bool
@@ -63,15 +65,10 @@ pub fn all_free(s: &[u8], k: Slot, n: u32) -> bool
     ensures { result ≡ all_below n (λ i. is_free (obj_at (read s.now) (slot (k.0 + i)))) }
 {
     let left = SLOT_COUNT_U32 - k.0 as u32;
-    let mut i: u32 = 0;
-    while i < n {
-        if left <= i {
-            return true;
-        }
+    for i in 0..n.min(left) {
         if !free_after(s, k, i) {
             return false;
         }
-        i += 1;
     }
     true
 }

@@ -7,7 +7,8 @@ use words::capabilities::Position;
 use words::layout::{CHILD, PAGE, POSITION_FLAGS_AT, POSITION_VALUE_AT};
 use words::numbers::Slot;
 
-// The position that starts at a byte of a part.
+// The position that starts at a byte of a part. Its first byte is a number of docs/LAYOUT.md.
+#[tactic(auto, unfolding(state::specs::Read::position_of, state::specs::Read::position_from))]
 pub fn position_of(p: &[u8], at: usize) -> Position
     requires { at ≤ 65000 }
     ensures { result ≡ position_of p.now at }

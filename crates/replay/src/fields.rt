@@ -1,57 +1,29 @@
-// The numbers of a recorded line, one after another.
-use lines::numbers::{Number, number_in};
-use lines::spans::word_after;
+// The numbers among the fields of a recorded line.
+use input::fields::Fields;
+use lines::numbers::number_in;
 
-// A number with its sign, and where the next one is looked for; 0 where none could be read, which no recorded line has.
+// A recorded answer: a count, or the refusal −k.
 #[derive(Clone, Copy)]
-pub struct Field {
-    pub negative: bool,
-    pub value: u32,
-    pub next: usize,
+pub enum Answer {
+    Count(u32),
+    Refusal(u32),
 }
 
-fn value_of(text: &[u8]) -> u32 {
-    match number_in(text) {
-        Number::Value(n) => n,
-        Number::NotANumber => 0,
-        Number::TooLarge => 0,
+// 0 where no number can be read, which no recorded line has.
+fn value_of(word: &[u8]) -> u32 {
+    number_in(word).unwrap_or(0)
+}
+
+pub(crate) fn answer_in(fields: &mut Fields) -> Answer {
+    match fields.word() {
+        [b'-', digits @ ..] => Answer::Refusal(value_of(digits)),
+        word => Answer::Count(value_of(word)),
     }
 }
 
-fn is_negative(text: &[u8]) -> bool {
-    if text.len() == 0 {
-        return false;
+// A sign, which no recorded line has here, is passed over.
+pub(crate) fn number_of(fields: &mut Fields) -> u32 {
+    match answer_in(fields) {
+        Answer::Count(n) | Answer::Refusal(n) => n,
     }
-    text[0] == b'-'
-}
-
-// The text behind its first byte.
-fn rest(text: &[u8]) -> &[u8] {
-    if text.len() == 0 {
-        return text;
-    }
-    &text[1..]
-}
-
-fn field_of(text: &[u8], next: usize) -> Field {
-    if is_negative(text) {
-        return Field {
-            negative: true,
-            value: value_of(rest(text)),
-            next,
-        };
-    }
-    Field {
-        negative: false,
-        value: value_of(text),
-        next,
-    }
-}
-
-// The field that stands at or after a byte of a line.
-pub(crate) fn field_at(line: &[u8], at: usize) -> Field {
-    let w = word_after(line, at);
-    let from = w.from;
-    let to = w.to;
-    field_of(&line[from..to], to)
 }

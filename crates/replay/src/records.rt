@@ -1,5 +1,6 @@
 // What a recorded line says was done, and what came of it.
-use crate::fields::{Field, field_at};
+use crate::fields::{Answer, answer_in, number_of};
+use input::fields::Fields;
 
 #[derive(Clone, Copy)]
 pub struct Call {
@@ -11,63 +12,43 @@ pub struct Call {
 }
 
 #[derive(Clone, Copy)]
-pub enum Record {
-    Nothing,
-    Boot(Field),
-    Tick(Field),
+pub enum Step {
+    Boot(Answer),
+    Tick(Answer),
     Set { at: u32, word: u32 },
-    Made { call: Call, answer: Field },
-    Hash { high: u32, low: u32 },
-    Unknown,
+    Made { call: Call, answer: Answer },
+    Hash(u64),
 }
 
-fn set_in(line: &[u8]) -> Record {
-    let at = field_at(line, 1);
-    let word = field_at(line, at.next);
-    Record::Set {
-        at: at.value,
-        word: word.value,
-    }
-}
+/// A line whose first byte is no step's.
+#[derive(Clone, Copy)]
+pub struct Unreadable;
 
-fn call_in(line: &[u8]) -> Record {
-    let caller = field_at(line, 1);
-    let w0 = field_at(line, caller.next);
-    let w1 = field_at(line, w0.next);
-    let w2 = field_at(line, w1.next);
-    let w3 = field_at(line, w2.next);
-    let answer = field_at(line, w3.next);
-    let call = Call {
-        caller: caller.value,
-        w0: w0.value,
-        w1: w1.value,
-        w2: w2.value,
-        w3: w3.value,
+// By the line's first byte; a blank line and a comment say nothing.
+pub(crate) fn step_in(line: &[u8]) -> Result<Option<Step>, Unreadable> {
+    let mut fields = Fields { line, at: 1 };
+    let step = match line.first() {
+        None | Some(b'#') => return Ok(None),
+        Some(b'b') => Step::Boot(answer_in(&mut fields)),
+        Some(b't') => Step::Tick(answer_in(&mut fields)),
+        Some(b'p') => Step::Set {
+            at: number_of(&mut fields),
+            word: number_of(&mut fields),
+        },
+        Some(b'c') => Step::Made {
+            call: Call {
+                caller: number_of(&mut fields),
+                w0: number_of(&mut fields),
+                w1: number_of(&mut fields),
+                w2: number_of(&mut fields),
+                w3: number_of(&mut fields),
+            },
+            answer: answer_in(&mut fields),
+        },
+        Some(b'h') => Step::Hash(
+            u64::from(number_of(&mut fields)) << 32 | u64::from(number_of(&mut fields)),
+        ),
+        Some(_) => return Err(Unreadable),
     };
-    Record::Made { call, answer }
-}
-
-fn hash_in(line: &[u8]) -> Record {
-    let high = field_at(line, 1);
-    let low = field_at(line, high.next);
-    Record::Hash {
-        high: high.value,
-        low: low.value,
-    }
-}
-
-// By the line's first byte.
-pub(crate) fn record_in(line: &[u8]) -> Record {
-    if line.len() == 0 {
-        return Record::Nothing;
-    }
-    match line[0] {
-        b'#' => Record::Nothing,
-        b'b' => Record::Boot(field_at(line, 1)),
-        b't' => Record::Tick(field_at(line, 1)),
-        b'p' => set_in(line),
-        b'c' => call_in(line),
-        b'h' => hash_in(line),
-        _ => Record::Unknown,
-    }
+    Ok(Some(step))
 }

@@ -7,7 +7,7 @@ use Rattle.state.specs.Layout.{Laid}
 use Rattle.state.specs.State.{State, place_numbered}
 use Rattle.words.specs.Sizes.{place_count}
 use Rattle.rules.specs.Chains.{code_of, codes}
-use Rattle.rules.specs.Names.{Capability, Blank, Holds, Origin, Place, Root, Under}
+use Rattle.rules.specs.Names.{Capability, None, Some, Origin, Place}
 use Rattle.rules.specs.WellFormed.{reaches}
 use Rattle.rules.proofs.Chain.{Reaches}
 use Rattle.rules.proofs.Fuel.{enough, inside, within, within_reaches}
@@ -18,15 +18,15 @@ unfolding reaches
 same_codes at zero p = refl
 same_codes at (suc n) p = go (λ r. same_codes at n r) (at p) refl
   where
-    on : ((r : ℕ) → reaches at n r ≡ within (λ x. code_of (at x)) n r) → (c : Capability) (o : Origin) → at p ≡ Holds c → c.origin ≡ o
+    on : ((r : ℕ) → reaches at n r ≡ within (λ x. code_of (at x)) n r) → (c : Capability) (o : Origin) → at p ≡ Some c → c.origin ≡ o
         → reaches at (suc n) p ≡ within (λ x. code_of (at x)) (suc n) p
-    on ih c Root e q = rw (e, q, reaches)
-    on ih c (Under r) e q = rw (e, q, reaches, add-two r) (ih r)
+    on ih c None e q = rw (e, q, reaches)
+    on ih c (Some r) e q = rw (e, q, reaches, add-two r) (ih r)
 
     go : ((r : ℕ) → reaches at n r ≡ within (λ x. code_of (at x)) n r) → (x : Place) → at p ≡ x
         → reaches at (suc n) p ≡ within (λ x. code_of (at x)) (suc n) p
-    go ih Blank e = rw (e, reaches)
-    go ih (Holds c) e = on ih c c.origin e refl
+    go ih None e = rw (e, reaches)
+    go ih (Some c) e = on ih c c.origin e refl
 
 module _ (st : State) where
   pub same_test : (x : ℕ) → reaches (place_numbered st) place_count x ≡ within (codes st) place_count x

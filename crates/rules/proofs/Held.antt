@@ -18,7 +18,7 @@ use Rattle.words.specs.Fields.{slot}
 use Rattle.words.specs.Rights.{all_flags, high_of, low_of, object_of, stamp_of}
 use Rattle.words.specs.Sizes.{state_length}
 use Rattle.rules.specs.Formed.{Formed}
-use Rattle.rules.specs.Names.{Blank, Capability, Child, Directory, Empty, Endpoint, Frost, Frozen, Function, Geometry, Holds, Kind, Memory, Origin, Page, Place, Position, Process, Root, Slot, Table, Thawed, Under}
+use Rattle.rules.specs.Names.{None, Capability, Child, Directory, Empty, Endpoint, Frost, Frozen, Function, Geometry, Some, Kind, Memory, Origin, Page, Place, Position, Process, Slot, Table, Thawed}
 use Rattle.rules.specs.WellFormed.{descends, ends_ok, geometric, hangs, names, object_ok, parent_fits, position_ok, reaches, right, right_ok, runs, stamp_ok, still, wf}
 use Rattle.rules.proofs.Facts.{number_few, right_open, wf_laid, wf_open}
 use Rattle.rules.proofs.Inside.{blank_past, free_past, laid_out, stands_inside}
@@ -44,7 +44,7 @@ module _ (st : State) (w : Formed st) where
   ]
 
   -- a parent's place is one of 512
-  pub parent_small : (c : Capability) (p : ℕ) → descends st c (Under p) ≡ true → p < 512
+  pub parent_small : (c : Capability) (p : ℕ) → descends st c (Some p) ≡ true → p < 512
   unfolding descends
   parent_small c p h = elim (dec_lt p 512) [
     | yes l ↦ l
@@ -52,8 +52,8 @@ module _ (st : State) (w : Formed st) where
   ]
 
   parent_fits_lem : (c : Capability) (o : Origin) → descends st c o ≡ true → parent_no o < 2 ^ 32
-  parent_fits_lem c Root h = omega arith
-  parent_fits_lem c (Under p) h = omega (arith, parent_small c p h)
+  parent_fits_lem c None h = omega arith
+  parent_fits_lem c (Some p) h = omega (arith, parent_small c p h)
 
   stamp_fits : (f : Frost) → stamp_ok f ≡ true → stamp_of f < 2 ^ 32
   stamp_fits Thawed h = omega arith
@@ -108,8 +108,8 @@ module _ (st : State) (w : Formed st) where
       }
 
   place_fits : (p : Place) → right (right_ok st) p ≡ true → PlaceFits p
-  place_fits Blank h = tt
-  place_fits (Holds c) h = right_fits c h
+  place_fits None h = tt
+  place_fits (Some c) h = right_fits c h
 
   position_fits : (g : Geometry) (e : Position) → position_ok st g e ≡ true → PositionFits e
   unfolding position_ok hangs
@@ -117,11 +117,11 @@ module _ (st : State) (w : Formed st) where
   position_fits g (Page f x) h = ltb-true _ _ (and_left _ _ (and_right _ _ h))
   position_fits g (Child o x) h = stands_inside st (laid_out w) o 1 (eqb-true _ _ (and_left _ _ (and_left _ _ h)))
 
-  object_fits : (o : Object) (s : Slot) → object_ok st s o ≡ true → ((e : ℕ) → e < length (places_of o) → right (right_ok st) (get_or (places_of o) e Blank) ≡ true) → ObjectFits o
+  object_fits : (o : Object) (s : Slot) → object_ok st s o ≡ true → ((e : ℕ) → e < length (places_of o) → right (right_ok st) (get_or (places_of o) e None) ≡ true) → ObjectFits o
   unfolding object_ok geometric runs
   object_fits free s h f = tt
   object_fits (body b) s h f = tt
-  object_fits (table ps) s h f = λ k l. place_fits (get_or ps k Blank) (f k l)
+  object_fits (table ps) s h f = λ k l. place_fits (get_or ps k None) (f k l)
   object_fits (directory g es) s h f =
       let shape = and_left _ _ h in
       let wide : g.size ≤ 31 = leb-true _ _ (and_left _ _ (and_right _ _ shape)) in

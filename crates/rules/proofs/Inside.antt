@@ -9,7 +9,7 @@ use Rattle.state.specs.State.{State, entries_in, free, obj_at, place_numbered}
 use Rattle.words.specs.Fields.{slot}
 use Rattle.words.specs.Sizes.{place_count, slot_count}
 use Rattle.rules.specs.Formed.{Formed}
-use Rattle.rules.specs.Names.{Blank, Slot}
+use Rattle.rules.specs.Names.{None, Slot}
 use Rattle.rules.specs.WellFormed.{object_no}
 
 abbrev pub laid_out : {st : State} → Formed st → Laid st
@@ -19,7 +19,7 @@ module _ (st : State) (w : Laid st) where
   pub free_past : (k : ℕ) → slot_count ≤ k → obj_at st (slot k) ≡ free
   free_past k h = get_or-eq_default st.slots free (omega (arith, w.room))
 
-  pub blank_past : (x : ℕ) → place_count ≤ x → place_numbered st x ≡ Blank
+  pub blank_past : (x : ℕ) → place_count ≤ x → place_numbered st x ≡ None
   blank_past x h = let none = free_past (x / 2) (omega arith) in rw none (rw none refl)
 
   -- so what is named by a number other than 0 stands in one of the slots

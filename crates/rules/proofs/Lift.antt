@@ -12,7 +12,7 @@ use Rattle.state.specs.Read.{read}
 use Rattle.state.specs.State.{State}
 use Rattle.words.proofs.Tests.{and_both, and_left, and_right}
 use Rattle.words.specs.Sizes.{state_length}
-use Rattle.words.specs.Try.{Try, no!, ok! }
+use Rattle.words.specs.Try.{Try, Err, Ok}
 use Rattle.rules.specs.Boot.{boot}
 use Rattle.rules.specs.Buffer.{Outcome, call_outcome, outcome, same, sound, tick_outcome}
 use Rattle.rules.specs.Calls.{plan}
@@ -69,8 +69,8 @@ abbrev on : State → Try Action → Outcome
 on st r = record { reply = answer r; buffer = bytes (after st r) }
 
 outcome_on : (st : State) (r : Try Action) → read (bytes st) ≡ st → outcome (bytes st) r ≡ on st r
-outcome_on st (no! r) h = refl
-outcome_on st (ok! a) h = rw h
+outcome_on st (Err r) h = refl
+outcome_on st (Ok a) h = rw h
 
 pub call_on : (st : State) → wf st ≡ true → (caller : ℕ) (w : Words) → call_outcome (bytes st) caller w ≡ record { reply = answer (plan st caller w); buffer = bytes (after st (plan st caller w)) }
 unfolding call_outcome

@@ -4,7 +4,7 @@ use Rattle.state.specs.State.{State, is_free, obj_at}
 use Rattle.words.specs.Fields.{slot}
 use Rattle.words.specs.Sizes.{kernel_start, slot_size}
 use Rattle.words.specs.Tests.{◌&◌, all_below}
-use Rattle.words.specs.Try.{◌>>◌, Try, need, ok! }
+use Rattle.words.specs.Try.{◌>>◌, Try, need, Ok}
 use Rattle.rules.specs.Names.{CapFlag, CapKotbl, KernelAddress, Slot, Stretch}
 
 -- ---- "A creation's address: CAP_FLAG if misaligned or not wholly in the memory right, then KOTBL": the first of n slots
@@ -15,4 +15,4 @@ unfoldable pub address_arg : State → Stretch → KernelAddress → ℕ → Try
 address_arg st m a n = do
   need (eqb (a.0 % slot_size) 0 & leb m.low.0 a.0 & leb (a.0 + slot_size * n) m.high.0) CapFlag
   need (all_below n (λ i. is_free (obj_at st (slot ((slot_of a).0 + i))))) CapKotbl
-  ok! (slot_of a)
+  Ok (slot_of a)

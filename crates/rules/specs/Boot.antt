@@ -4,18 +4,18 @@ use Rattle.state.specs.State.{Object, State, body, directory, endpoint, free, pr
 use Rattle.words.specs.Fields.{address, count, slot}
 use Rattle.words.specs.Rights.{page_flags, root_right}
 use Rattle.words.specs.Sizes.{kernel_end, kernel_start}
-use Rattle.rules.specs.Names.{Blank, Directory, Endpoint, Function, Geometry, Holds, Memory, Page, Place, Position, Process, Table}
+use Rattle.rules.specs.Names.{None, Directory, Endpoint, Function, Geometry, Some, Memory, Page, Place, Position, Process, Table}
 
 -- "Table entries 0..5: roots of table, directory, process, functions 0..65535, all memory, endpoint"; "a 32-entry table"
 abbrev pub boot_places : List Place
 boot_places =
-    Holds (root_right (Table (slot 0)))
-    ∷ Holds (root_right (Directory (slot 16) 0 7))
-    ∷ Holds (root_right (Process (slot 18)))
-    ∷ Holds (root_right (Function 0 65535))
-    ∷ Holds (root_right (Memory (address kernel_start) (address kernel_end)))
-    ∷ Holds (root_right (Endpoint (slot 19)))
-    ∷ replicate 26 Blank
+    Some (root_right (Table (slot 0)))
+    ∷ Some (root_right (Directory (slot 16) 0 7))
+    ∷ Some (root_right (Process (slot 18)))
+    ∷ Some (root_right (Function 0 65535))
+    ∷ Some (root_right (Memory (address kernel_start) (address kernel_end)))
+    ∷ Some (root_right (Endpoint (slot 19)))
+    ∷ replicate 26 None
 
 -- "size order 29, number order 3, start 0"
 abbrev pub boot_shape : Geometry

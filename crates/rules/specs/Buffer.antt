@@ -5,7 +5,7 @@ use Rattle.state.specs.Read.{read}
 use Rattle.words.specs.Refusals.{number}
 use Rattle.words.specs.Sizes.{state_length}
 use Rattle.words.specs.Tests.{◌&◌, choose}
-use Rattle.words.specs.Try.{Try, no!, ok! }
+use Rattle.words.specs.Try.{Try, Err, Ok}
 use Rattle.rules.specs.Boot.{boot}
 use Rattle.rules.specs.Calls.{plan}
 use Rattle.rules.specs.Commit.{after, answer, ticked}
@@ -39,8 +39,8 @@ unfoldable pub tick_outcome : List ℕ → Outcome
 tick_outcome b = choose (sound b) (record { reply = pos 0; buffer = bytes (ticked (read b)) }) (refused b)
 
 abbrev pub outcome : List ℕ → Try Action → Outcome
-outcome b (no! r) = record { reply = number r; buffer = b }
-outcome b (ok! a) = record { reply = answer (ok! a); buffer = bytes (after (read b) (ok! a)) }
+outcome b (Err r) = record { reply = number r; buffer = b }
+outcome b (Ok a) = record { reply = answer (Ok a); buffer = bytes (after (read b) (Ok a)) }
 
 unfoldable pub call_outcome : List ℕ → ℕ → Words → Outcome
 call_outcome b caller w = choose (sound b) (outcome b (plan (read b) caller w)) (refused b)

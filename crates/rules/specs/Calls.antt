@@ -6,9 +6,9 @@ use Rattle.words.specs.Grants.{unpack}
 use Rattle.words.specs.Rights.{d_add_dst, d_add_src, d_con_child, d_con_parent, d_des, d_proc_crt, d_proc_pgt, d_rem, e_snd, has, inside, is_blank, m_captbl, m_pgtbl, m_proc, m_sig, p_cpt, p_pgt, some_flag, some_range, subset, t_add_dst, t_add_src, t_crt, t_del, t_frz, t_proc_cpt, t_proc_crt, t_rem}
 use Rattle.words.specs.Sizes.{entry_size, header_size, most_entries, position_size, slot_count, slots_for}
 use Rattle.words.specs.Tests.{◌&◌, all_below, any_below, choose, ◌or◌}
-use Rattle.words.specs.Try.{◌>>◌, ◌>>=◌, Try, need, no!, ok! }
+use Rattle.words.specs.Try.{◌>>◌, ◌>>=◌, Try, need, Err, Ok}
 use Rattle.rules.specs.Addresses.{address_arg}
-use Rattle.rules.specs.Names.{Action, Answer, BadCall, BadCaller, CapExist, CapFlag, CapNull, CapRange, Capability, ChangeDirectory, ChangeTable, Child, CreateDirectory, CreateEndpoint, CreateProcess, CreateTable, Delete, Directory, Empty, Endpoint, Fill, Frame, Freeze, Function, Geometry, Grant, Kind, Memory, Page, PgtAddr, PgtHw, PgtMap, PgtPerm, Position, Process, Refusal, Remove, SetCount, SetPosition, SivAct, SivConflict, SivFull, Slot, Span, Table, Thawed, Under, Words}
+use Rattle.rules.specs.Names.{Action, Answer, BadCall, BadCaller, CapExist, CapFlag, CapNull, CapRange, Capability, ChangeDirectory, ChangeTable, Child, CreateDirectory, CreateEndpoint, CreateProcess, CreateTable, Delete, Directory, Empty, Endpoint, Fill, Frame, Freeze, Function, Geometry, Grant, Kind, Memory, Page, PgtAddr, PgtHw, PgtMap, PgtPerm, Position, Process, Refusal, Remove, SetCount, SetPosition, SivAct, SivConflict, SivFull, Slot, Span, Table, Thawed, Some, Words}
 use Rattle.rules.specs.Numbers.{as_directory, as_endpoint, as_function, as_process, as_table, directory_arg, endpoint_arg, lookup, memory_arg, process_arg, table_arg, top_arg}
 use Rattle.rules.specs.Places.{spot, thawed_at, to_delete, to_fill, to_remove}
 use Rattle.rules.specs.WellFormed.{geometric}
@@ -24,7 +24,7 @@ create_table st t w = do
   -- "entries not 1..64"
   need (leb 1 w.p3 & leb w.p3 most_entries) CapRange
   a ← address_arg st m (address w.p2) (slots_for (entry_size * w.p3))
-  ok! (CreateTable p a w.p3)
+  Ok (CreateTable p a w.p3)
 
 -- ---- 2 delete table: C table DEL; P1 place. "then EXIST (table)": "table to delete not empty"
 unfoldable pub is_empty_table : State → Slot → Bool
@@ -35,7 +35,7 @@ delete_table st t w = do
   c ← table_arg st t (C w) t_del
   o ← to_delete as_table st c w.p1
   need (is_empty_table st o) CapExist
-  ok! (Delete (spot c w.p1) o)
+  Ok (Delete (spot c w.p1) o)
 
 -- ---- 3 delegate: P1.D1 table ADD_DST; P2.D1 table ADD_SRC; P1.D0 place to; P2.D0 place from; P3 flags
 -- the kind and the flags that the words ask for, of a right of the kind
@@ -65,7 +65,7 @@ unfoldable pub granted : Capability → ℕ → Words → Try Capability
 granted c p w = do
   need (some_flag c.kind (asked_flags c.kind w) & subset (asked_flags c.kind w) c.flags) CapFlag
   need (some_range (asked_kind c.kind w) & inside (asked_kind c.kind w) c.kind) CapFlag
-  ok! (record { kind = asked_kind c.kind w; flags = asked_flags c.kind w; frost = Thawed; origin = Under p })
+  Ok (record { kind = asked_kind c.kind w; flags = asked_flags c.kind w; frost = Thawed; origin = Some p })
 
 unfoldable pub delegate : State → Slot → Words → Try Action
 delegate st t w = do
@@ -74,21 +74,21 @@ delegate st t w = do
   p ← to_fill st d (D0 w.p1)
   c ← thawed_at st s (D0 w.p2)
   g ← granted c (place_number (spot s (D0 w.p2))) w
-  ok! (Fill p g)
+  Ok (Fill p g)
 
 -- ---- 4 freeze: C table FRZ; P1 place
 unfoldable pub freeze : State → Slot → Words → Try Action
 freeze st t w = do
   c ← table_arg st t (C w) t_frz
   thawed_at st c w.p1
-  ok! (Freeze (spot c w.p1))
+  Ok (Freeze (spot c w.p1))
 
 -- ---- 5 remove: C table REM; P1 place
 unfoldable pub remove : State → Slot → Words → Try Action
 remove st t w = do
   c ← table_arg st t (C w) t_rem
   p ← to_remove st c w.p1
-  ok! (Remove p)
+  Ok (Remove p)
 
 -- ---- 6 create directory: C table CRT; P1.D1 memory PGTBL; Q1 place; Q0 size order, N[15:8] number order, P3 start with top mark in bit 0; P2 address
 abbrev pub shape_asked : Words → Geometry
@@ -102,7 +102,7 @@ create_directory st t w = do
   -- "size order 6..31, number order 1..8, sum at most 32, start a multiple of 2^sum; else PGT_HW"
   need (geometric (shape_asked w)) PgtHw
   a ← address_arg st m (address w.p2) (slots_for (header_size + position_size * 2 ^ (shape_asked w).number))
-  ok! (CreateDirectory p a (shape_asked w))
+  Ok (CreateDirectory p a (shape_asked w))
 
 -- ---- 7 delete directory: C table DEL; P1 place. "PGT_HW (directory has a child or is one)"
 abbrev pub is_child : Position → Bool
@@ -124,7 +124,7 @@ hangs_somewhere st d = any_below slot_count (λ s. any_below (positions_in st (s
 unfoldable pub as_directory_object : Kind → Try Slot
 as_directory_object k = do
   d ← as_directory k
-  ok! d.object
+  Ok d.object
 
 unfoldable pub delete_directory : State → Slot → Words → Try Action
 delete_directory st t w = do
@@ -132,16 +132,16 @@ delete_directory st t w = do
   o ← to_delete as_directory_object st c w.p1
   need (not (has_child_directory st o)) PgtHw
   need (not (hangs_somewhere st o)) PgtHw
-  ok! (Delete (spot c w.p1) o)
+  Ok (Delete (spot c w.p1) o)
 
 -- ---- 8 map page: P1.D1 directory ADD_DST; P2.D1 directory ADD_SRC; P1.D0, P2.D0 positions; P3.D0 index; P3.D1 page flags
 abbrev pub in_span : Span → ℕ → Bool
 in_span d i = leb d.low i & leb i d.high
 
 abbrev pub as_page : Refusal → Position → Try Frame
-as_page r Empty = no! r
-as_page r (Page f x) = ok! (record { frame = f; flags = x })
-as_page r (Child o x) = no! r
+as_page r Empty = Err r
+as_page r (Page f x) = Ok (record { frame = f; flags = x })
+as_page r (Child o x) = Err r
 
 abbrev pub is_empty : Position → Bool
 is_empty Empty = true
@@ -167,7 +167,7 @@ map_page st t w = do
   need (is_empty (position_at st d.object (D0 w.p1))) PgtMap
   need (subset (D1 w.p3) f.flags) PgtPerm
   -- "Frame = source frame + index·2^(target order)"
-  ok! (SetPosition d.object (D0 w.p1) (Page (f.frame + D0 w.p3 * 2 ^ size_at st d) (D1 w.p3)))
+  Ok (SetPosition d.object (D0 w.p1) (Page (f.frame + D0 w.p3 * 2 ^ size_at st d) (D1 w.p3)))
 
 -- ---- 9 remove page: P1 directory REM; P2 position. "PGT_ADDR, range, PGT_MAP unless a page ... is there"
 unfoldable pub remove_page : State → Slot → Words → Try Action
@@ -176,7 +176,7 @@ remove_page st t w = do
   need (ltb w.p2 (positions_in st d.object)) PgtAddr
   need (in_span d w.p2) CapFlag
   as_page PgtMap (position_at st d.object w.p2)
-  ok! (SetPosition d.object w.p2 Empty)
+  Ok (SetPosition d.object w.p2 Empty)
 
 -- ---- 10 construct: P1.D1 parent CON_PARENT; P1.D0 child CON_CHILD; P2 position; P3[5:0] page flags
 unfoldable pub construct : State → Slot → Words → Try Action
@@ -190,7 +190,7 @@ construct st t w = do
   need (in_span p w.p2) CapFlag
   need (is_empty (position_at st p.object w.p2)) PgtMap
   need (not (shape_at st c.object).top) PgtMap
-  ok! (SetPosition p.object w.p2 (Child c.object (w.p3 % 64)))
+  Ok (SetPosition p.object w.p2 (Child c.object (w.p3 % 64)))
 
 -- ---- 11 destruct: P1 directory DES; P2 position. "PGT_ADDR, range, PGT_MAP unless ... a child, is there"
 unfoldable pub destruct : State → Slot → Words → Try Action
@@ -199,7 +199,7 @@ destruct st t w = do
   need (ltb w.p2 (positions_in st d.object)) PgtAddr
   need (in_span d w.p2) CapFlag
   need (is_child (position_at st d.object w.p2)) PgtMap
-  ok! (SetPosition d.object w.p2 Empty)
+  Ok (SetPosition d.object w.p2 Empty)
 
 -- ---- 12 create process: C table CRT; P1.D1 memory PROC; P2.D1 table PROC_CRT; P2.D0 directory PROC_CRT; P1.D0 place; P3 address
 unfoldable pub create_process : State → Slot → Words → Try Action
@@ -210,28 +210,28 @@ create_process st t w = do
   d ← top_arg st t (D0 w.p2) d_proc_crt
   p ← to_fill st c (D0 w.p1)
   a ← address_arg st m (address w.p3) 1
-  ok! (CreateProcess p a o d)
+  Ok (CreateProcess p a o d)
 
 -- ---- 13 delete process: C table DEL; P1 place
 unfoldable pub delete_process : State → Slot → Words → Try Action
 delete_process st t w = do
   c ← table_arg st t (C w) t_del
   o ← to_delete as_process st c w.p1
-  ok! (Delete (spot c w.p1) o)
+  Ok (Delete (spot c w.p1) o)
 
 -- ---- 14 change table: P1 process CPT; P2 table PROC_CPT
 unfoldable pub change_table : State → Slot → Words → Try Action
 change_table st t w = do
   p ← process_arg st t w.p1 p_cpt
   o ← table_arg st t w.p2 t_proc_cpt
-  ok! (ChangeTable p o)
+  Ok (ChangeTable p o)
 
 -- ---- 15 change directory: P1 process PGT; P2 directory PROC_PGT
 unfoldable pub change_directory : State → Slot → Words → Try Action
 change_directory st t w = do
   p ← process_arg st t w.p1 p_pgt
   d ← top_arg st t w.p2 d_proc_pgt
-  ok! (ChangeDirectory p d)
+  Ok (ChangeDirectory p d)
 
 -- ---- 16 create endpoint: C table CRT; P1 memory SIG; P2 place; P3 address
 unfoldable pub create_endpoint : State → Slot → Words → Try Action
@@ -240,7 +240,7 @@ create_endpoint st t w = do
   m ← memory_arg st t w.p1 m_sig
   p ← to_fill st c w.p2
   a ← address_arg st m (address w.p3) 1
-  ok! (CreateEndpoint p a)
+  Ok (CreateEndpoint p a)
 
 -- ---- 17 delete endpoint: C table DEL; P1 place. "SIV_CONFLICT": "deleting the boot endpoint"
 unfoldable pub delete_endpoint : State → Slot → Words → Try Action
@@ -248,7 +248,7 @@ delete_endpoint st t w = do
   c ← table_arg st t (C w) t_del
   o ← to_delete as_endpoint st c w.p1
   need (not (boot_mark (obj_at st o))) SivConflict
-  ok! (Delete (spot c w.p1) o)
+  Ok (Delete (spot c w.p1) o)
 
 -- ---- 18 send: P1 endpoint SND
 unfoldable pub send : State → Slot → Words → Try Action
@@ -256,7 +256,7 @@ send st t w = do
   e ← endpoint_arg st t w.p1 e_snd
   -- "count is 2^32−1"
   need (ltb (count_of (obj_at st e)) (2 ^ 32 - 1)) SivFull
-  ok! (SetCount e (count (count_of (obj_at st e) + 1)) (count 0))
+  Ok (SetCount e (count (count_of (obj_at st e) + 1)) (count 0))
 
 -- ---- 19 receive: P1 endpoint, flag of its option; P2 option 0..3 = BS, BM, NS, NM. "−15 before the flag, after the kind"
 abbrev pub option_ns : ℕ
@@ -280,7 +280,7 @@ receive st t w = do
   need (eqb w.p2 option_ns or eqb w.p2 option_nm) SivAct
   need (has c.flags (option_flag w.p2)) CapFlag
   -- "the rest stays"
-  ok! (SetCount e (count (count_of (obj_at st e) - min (count_of (obj_at st e)) (most w.p2))) (count (min (count_of (obj_at st e)) (most w.p2))))
+  Ok (SetCount e (count (count_of (obj_at st e) - min (count_of (obj_at st e)) (most w.p2))) (count (min (count_of (obj_at st e)) (most w.p2))))
 
 -- ---- 20 function: C function; P1.D0 number. "outside the range is −5, any other but 0 is −4. Function 0 answers clock mod 2^31"
 unfoldable pub function : State → Slot → Words → Try Action
@@ -289,11 +289,11 @@ function st t w = do
   f ← as_function c.kind
   need (leb f.low (D0 w.p1) & leb (D0 w.p1) f.high) CapFlag
   need (eqb (D0 w.p1) 0) CapNull
-  ok! (Answer (st.clock % 2 ^ 31))
+  Ok (Answer (st.clock % 2 ^ 31))
 
 -- ---- −17: "call number not 1..20"
 abbrev pub no_call : State → Slot → Words → Try Action
-no_call st t w = no! BadCall
+no_call st t w = Err BadCall
 
 -- the calls by their numbers
 abbrev pub call_table : List (State → Slot → Words → Try Action)
@@ -309,12 +309,12 @@ call_of n = get_or call_table n no_call
 
 -- ---- −18: "caller is not a live process's slot"; the caller's table
 unfoldable pub caller_table : Object → Try Slot
-caller_table free = no! BadCaller
-caller_table (body h) = no! BadCaller
-caller_table (table ps) = no! BadCaller
-caller_table (directory g es) = no! BadCaller
-caller_table (process t d) = ok! t
-caller_table (endpoint c b) = no! BadCaller
+caller_table free = Err BadCaller
+caller_table (body h) = Err BadCaller
+caller_table (table ps) = Err BadCaller
+caller_table (directory g es) = Err BadCaller
+caller_table (process t d) = Ok t
+caller_table (endpoint c b) = Err BadCaller
 
 -- "Order: −19, −18, −17, then the arguments left to right"; −19 is said of bytes: see Buffer
 unfoldable pub plan : State → ℕ → Words → Try Action

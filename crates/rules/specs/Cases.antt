@@ -10,7 +10,7 @@ use Rattle.rules.specs.Boot.{boot}
 use Rattle.rules.specs.Buffer.{same}
 use Rattle.rules.specs.Calls.{plan}
 use Rattle.rules.specs.Commit.{after, answer}
-use Rattle.rules.specs.Names.{Action, Blank, Endpoint, Holds, Memory, Place, Thawed, Under, Words}
+use Rattle.rules.specs.Names.{Action, None, Endpoint, Some, Memory, Place, Thawed, Words}
 
 -- ---- a case: the calls made before, all by 18; the caller and its words; the answer; what place 6 of the boot table holds then
 pub record Case : Type 0 where
@@ -28,28 +28,28 @@ case b c w a p = record { before = b; caller = c; words = w; answered = a; place
 
 -- the root of an endpoint at slot k
 abbrev pub new_endpoint : ℕ → Place
-new_endpoint k = Holds (root_right (Endpoint (slot k)))
+new_endpoint k = Some (root_right (Endpoint (slot k)))
 
 -- "entry 6 grants SIG on 0x20000400 to below 0x20000800"; its parent is place 4 of the table at slot 0
 abbrev pub sig : Place
-sig = Holds (record { kind = Memory (address 0x20000400) (address 0x20000800); flags = 16; frost = Thawed; origin = Under 4 })
+sig = Some (record { kind = Memory (address 0x20000400) (address 0x20000800); flags = 16; frost = Thawed; origin = Some 4 })
 
 abbrev pub cases : List Case
 cases =
-    case [] 18 (four 0x00140003 0 0 0) (pos 0) Blank
-    ∷ case [] 18 (four 0x00150000 0 0 0) (negsuc 16) Blank
-    ∷ case [] 18 (four 0x00000000 0 0 0) (negsuc 16) Blank
-    ∷ case [] 17 (four 0x00140003 0 0 0) (negsuc 17) Blank
+    case [] 18 (four 0x00140003 0 0 0) (pos 0) None
+    ∷ case [] 18 (four 0x00150000 0 0 0) (negsuc 16) None
+    ∷ case [] 18 (four 0x00000000 0 0 0) (negsuc 16) None
+    ∷ case [] 17 (four 0x00140003 0 0 0) (negsuc 17) None
     ∷ case [] 18 (four 0x00100000 4 6 0x20000500) (pos 0) (new_endpoint 20)
     ∷ case (four 0x00100000 4 6 0x20000500 ∷ []) 18 (four 0x00100000 4 6 0x20000500) (negsuc 5) (new_endpoint 20)
     ∷ case (four 0x00100000 4 6 0x20000500 ∷ []) 18 (four 0x00100000 4 7 0x20000500) (negsuc 6) (new_endpoint 20)
-    ∷ case [] 18 (four 0x00100000 4 6 0x20000501) (negsuc 4) Blank
+    ∷ case [] 18 (four 0x00100000 4 6 0x20000501) (negsuc 4) None
     ∷ case [] 18 (four 0x00100000 4 6 0x20003FC0) (pos 0) (new_endpoint 255)
-    ∷ case [] 18 (four 0x00100000 4 6 0x20004000) (negsuc 4) Blank
+    ∷ case [] 18 (four 0x00100000 4 6 0x20004000) (negsuc 4) None
     ∷ case [] 18 (four 0x08030410 6 4 0x20002000) (pos 0) sig
-    ∷ case [] 18 (four 0x04030410 6 4 0x20002000) (negsuc 4) Blank
+    ∷ case [] 18 (four 0x04030410 6 4 0x20002000) (negsuc 4) None
     ∷ case [] 18 (four 0x00100000 0x0084 6 0x20000500) (pos 0) (new_endpoint 20)
-    ∷ case [] 18 (four 0x00100000 0x0100 6 0x20000500) (negsuc 0) Blank
+    ∷ case [] 18 (four 0x00100000 0x0100 6 0x20000500) (negsuc 0) None
     ∷ []
 
 abbrev pub same_answer : ℤ → ℤ → Bool

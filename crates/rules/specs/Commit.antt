@@ -4,27 +4,27 @@ use Rattle.state.specs.State.{Object, State, boot_mark, directory, directory_nam
 use Rattle.words.specs.Fields.{count}
 use Rattle.words.specs.Refusals.{number}
 use Rattle.words.specs.Rights.{root_right}
-use Rattle.words.specs.Try.{Try, no!, ok! }
-use Rattle.rules.specs.Names.{Action, Answer, Blank, ChangeDirectory, ChangeTable, CreateDirectory, CreateEndpoint, CreateProcess, CreateTable, Delete, Directory, Empty, Endpoint, Fill, Freeze, Frozen, Holds, Kind, Place, Process, Remove, SetCount, SetPosition, Slot, Spot, Table}
+use Rattle.words.specs.Try.{Try, Err, Ok}
+use Rattle.rules.specs.Names.{Action, Answer, None, ChangeDirectory, ChangeTable, CreateDirectory, CreateEndpoint, CreateProcess, CreateTable, Delete, Directory, Empty, Endpoint, Fill, Freeze, Frozen, Some, Kind, Place, Process, Remove, SetCount, SetPosition, Slot, Spot, Table}
 
 -- the right in a place, frozen with the clock as its stamp
 abbrev pub froze : ℕ → Place → Place
-froze clock Blank = Blank
-froze clock (Holds c) = Holds (record { kind = c.kind; flags = c.flags; frost = Frozen clock; origin = c.origin })
+froze clock None = None
+froze clock (Some c) = Some (record { kind = c.kind; flags = c.flags; frost = Frozen clock; origin = c.origin })
 
 -- an object, and its root in the place to fill
 abbrev pub create : State → Spot → Slot → Object → Kind → State
-create st p s o k = put_place (raise st s o) p (Holds (root_right k))
+create st p s o k = put_place (raise st s o) p (Some (root_right k))
 
 abbrev pub commit : State → Action → State
-commit st (CreateTable p s n) = create st p s (table (replicate n Blank)) (Table s)
+commit st (CreateTable p s n) = create st p s (table (replicate n None)) (Table s)
 commit st (CreateDirectory p s g) = create st p s (directory g (replicate (2 ^ g.number) Empty)) (Directory s 0 (2 ^ g.number - 1))
 commit st (CreateProcess p s t d) = create st p s (process t d) (Process s)
 commit st (CreateEndpoint p s) = create st p s (endpoint (count 0) false) (Endpoint s)
-commit st (Delete p o) = raze (put_place st p Blank) o
-commit st (Fill p c) = put_place st p (Holds c)
+commit st (Delete p o) = raze (put_place st p None) o
+commit st (Fill p c) = put_place st p (Some c)
 commit st (Freeze p) = put_place st p (froze st.clock (place_at st p.table p.entry))
-commit st (Remove p) = put_place st p Blank
+commit st (Remove p) = put_place st p None
 commit st (SetPosition d i x) = put_position st d i x
 commit st (ChangeTable p t) = put st p (process t (directory_named (obj_at st p)))
 commit st (ChangeDirectory p d) = put st p (process (table_named (obj_at st p)) d)
@@ -48,13 +48,13 @@ success (SetCount e c n) = n.0
 success (Answer n) = n
 
 abbrev pub answer : Try Action → ℤ
-answer (no! r) = number r
-answer (ok! a) = pos (success a)
+answer (Err r) = number r
+answer (Ok a) = pos (success a)
 
 -- "A refusal changes nothing."
 abbrev pub after : State → Try Action → State
-after st (no! r) = st
-after st (ok! a) = commit st a
+after st (Err r) = st
+after st (Ok a) = commit st a
 
 -- "a tick adds 1 mod 2^32"
 unfoldable pub ticked : State → State

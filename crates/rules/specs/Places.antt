@@ -5,8 +5,8 @@ use Rattle.words.specs.Fields.{slot}
 use Rattle.words.specs.Rights.{is_blank, is_root, is_thawed, is_under, place_thawed, stamp_of}
 use Rattle.words.specs.Sizes.{quiet_ticks, slot_count}
 use Rattle.words.specs.Tests.{any_below, ◌or◌}
-use Rattle.words.specs.Try.{◌>>◌, ◌>>=◌, Try, need, ok! }
-use Rattle.rules.specs.Names.{Blank, CapExist, CapFrozen, CapNull, CapQuie, CapRange, CapRefcnt, Capability, Frost, Holds, Kind, Place, Slot, Spot}
+use Rattle.words.specs.Try.{◌>>◌, ◌>>=◌, Try, need, Ok}
+use Rattle.rules.specs.Names.{None, CapExist, CapFrozen, CapNull, CapQuie, CapRange, CapRefcnt, Capability, Frost, Some, Kind, Place, Slot, Spot}
 use Rattle.rules.specs.Numbers.{filled}
 
 -- ---- "A place is a plain entry number."
@@ -19,7 +19,7 @@ to_fill st t e = do
   need (ltb e (entries_in st t)) CapRange
   need (place_thawed (place_at st t e)) CapFrozen
   need (is_blank (place_at st t e)) CapExist
-  ok! (spot t e)
+  Ok (spot t e)
 
 -- RANGE, NULL: how freeze, remove, delete and a delegation's source begin
 unfoldable pub used_at : State → Slot → ℕ → Try Capability
@@ -32,27 +32,27 @@ unfoldable pub thawed_at : State → Slot → ℕ → Try Capability
 thawed_at st t e = do
   c ← used_at st t e
   need (is_thawed c.frost) CapFrozen
-  ok! c
+  Ok c
 
 -- RANGE, NULL, FROZEN ("to delete or remove, not frozen")
 unfoldable pub frozen_at : State → Slot → ℕ → Try Capability
 frozen_at st t e = do
   c ← used_at st t e
   need (not (is_thawed c.frost)) CapFrozen
-  ok! c
+  Ok c
 
 -- ---- "Age = (clock − stamp) mod 2^32"; stamps and clocks are below 2^32
 unfoldable pub age : State → Frost → ℕ
 age st f = (st.clock + 2 ^ 32 - stamp_of f) % 2 ^ 32
 
 -- QUIE: "frozen for fewer than 8 ticks"
-unfoldable pub quiet : State → Capability → Try Bool
+unfoldable pub quiet : State → Capability → Try (Unit {0})
 quiet st c = need (leb quiet_ticks (age st c.frost)) CapQuie
 
 -- REFCNT: "has children or users; root to remove; child to delete"
 abbrev pub is_child_of : ℕ → Place → Bool
-is_child_of p Blank = false
-is_child_of p (Holds c) = is_under p c.origin
+is_child_of p None = false
+is_child_of p (Some c) = is_under p c.origin
 
 unfoldable pub has_children : State → Spot → Bool
 has_children st p = any_below slot_count (λ s. any_below (entries_in st (slot s)) (λ e. is_child_of (place_number p) (place_at st (slot s) e)))
@@ -78,7 +78,7 @@ to_delete kind st t e = do
   need (is_root c.origin) CapRefcnt
   need (not (has_children st (spot t e))) CapRefcnt
   need (not (has_users st o)) CapRefcnt
-  ok! o
+  Ok o
 
 -- "Remove: RANGE, NULL, FROZEN, QUIE, REFCNT."
 unfoldable pub to_remove : State → Slot → ℕ → Try Spot
@@ -87,4 +87,4 @@ to_remove st t e = do
   quiet st c
   need (not (is_root c.origin)) CapRefcnt
   need (not (has_children st (spot t e))) CapRefcnt
-  ok! (spot t e)
+  Ok (spot t e)

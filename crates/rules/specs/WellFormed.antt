@@ -6,7 +6,7 @@ use Rattle.words.specs.Fields.{slot}
 use Rattle.words.specs.Rights.{all_flags, inside, is_root, kind_no, object_of, page_flags, subset}
 use Rattle.words.specs.Sizes.{kernel_end, kernel_start, least_number_order, least_size_order, most_entries, most_number_order, most_order_sum, most_size_order, place_count, slot_count, slot_size}
 use Rattle.words.specs.Tests.{◌&◌, all_below, sum_below}
-use Rattle.rules.specs.Names.{Blank, Capability, Child, Directory, Empty, Endpoint, Frost, Frozen, Function, Geometry, Holds, Kind, Memory, Origin, Page, Place, Position, Process, Root, Slot, Table, Thawed, Under}
+use Rattle.rules.specs.Names.{None, Capability, Child, Directory, Empty, Endpoint, Frost, Frozen, Function, Geometry, Some, Kind, Memory, Origin, Page, Place, Position, Process, Slot, Table, Thawed}
 
 -- every place of every table passes
 unfoldable pub every_place : State → (Place → Bool) → Bool
@@ -17,8 +17,8 @@ unfoldable pub every_object : State → (Slot → Object → Bool) → Bool
 every_object st p = all_below slot_count (λ s. p (slot s) (obj_at st (slot s)))
 
 abbrev pub right : (Capability → Bool) → Place → Bool
-right p Blank = true
-right p (Holds c) = p c
+right p None = true
+right p (Some c) = p c
 
 -- ---- "objects lie in kernel memory and don't overlap"
 unfoldable pub apart : State → Bool
@@ -44,8 +44,8 @@ names st (Function l h) = true
 
 -- ---- "each object, and the kinds memory and function, has exactly one root, with all its flags and whole range"
 abbrev pub is_root_of : ℕ → Slot → Place → Bool
-is_root_of k o Blank = false
-is_root_of k o (Holds c) = is_root c.origin & eqb (kind_no c.kind) k & eqb (object_of c.kind).0 o.0
+is_root_of k o None = false
+is_root_of k o (Some c) = is_root c.origin & eqb (kind_no c.kind) k & eqb (object_of c.kind).0 o.0
 
 abbrev pub one : Bool → ℕ
 one true = 1
@@ -78,17 +78,17 @@ whole st (Function l h) = eqb l 0 & eqb h 65535
 
 -- ---- "a child has its parent's kind and object, flags and range inside the parent's, and its parent chain reaches a root"
 abbrev pub parent_fits : Capability → Place → Bool
-parent_fits c Blank = false
-parent_fits c (Holds p) = inside c.kind p.kind & subset c.flags p.flags
+parent_fits c None = false
+parent_fits c (Some p) = inside c.kind p.kind & subset c.flags p.flags
 
 -- the chain from the place of number p comes to a root within n places; `at` is the place of a number
 unfoldable pub reaches : (ℕ → Place) → ℕ → ℕ → Bool
 reaches at zero p = false
-reaches at (suc n) p = elim (at p) [ Blank ↦ false | Holds c ↦ elim c.origin [ Root ↦ true | Under q ↦ reaches at n q ] ]
+reaches at (suc n) p = elim (at p) [ None ↦ false | Some c ↦ elim c.origin [ None ↦ true | Some q ↦ reaches at n q ] ]
 
 unfoldable pub descends : State → Capability → Origin → Bool
-descends st c Root = eqb c.flags (all_flags c.kind) & whole st c.kind
-descends st c (Under p) = parent_fits c (place_numbered st p) & reaches (place_numbered st) place_count p
+descends st c None = eqb c.flags (all_flags c.kind) & whole st c.kind
+descends st c (Some p) = parent_fits c (place_numbered st p) & reaches (place_numbered st) place_count p
 
 -- ---- "a process names a live table and a live top directory"
 unfoldable pub runs : State → Slot → Slot → Bool

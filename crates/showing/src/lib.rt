@@ -13,61 +13,43 @@ use reading::processes::{directory_named, table_named};
 use reading::tables::{entries_in, place_at};
 use rows::{NO_NUMBERS, say_form, say_row};
 use std::io::Result;
-use words::capabilities::{Place, Position};
+use words::capabilities::Position;
 use words::layout::{DIRECTORY_TAG, PROCESS_TAG, TABLE_TAG};
 use words::numbers::Slot;
 use words::sizes::{SLOT_COUNT, STATE_LENGTH};
 
-// Of two rows the second, where the mark is set.
-fn row_of(mark: bool) -> u32 {
-    if mark { 1 } else { 0 }
-}
-
 fn say_entry(rt: &impl Print, s: &[u8; STATE_LENGTH], t: Slot, e: u32) -> Result<()> {
-    let p = place_at(s, t, e);
-    let Place::Holds(c) = p else {
+    let Some(c) = place_at(s, t, e) else {
         return Ok(());
     };
-    say_form(rt, b"  #: ", [e as u64, 0, 0, 0])?;
+    say_form(rt, b"  #: ", [u64::from(e), 0, 0, 0])?;
     say_right(rt, s, c)?;
     say_form(rt, b"\n", NO_NUMBERS)
 }
 
-fn say_entries(rt: &impl Print, s: &[u8; STATE_LENGTH], t: Slot, n: u32) -> Result<()> {
+fn say_table(rt: &impl Print, s: &[u8; STATE_LENGTH], t: Slot) -> Result<()> {
+    let n = entries_in(s, t);
+    say_form(rt, b"table of #\n", [u64::from(n), 0, 0, 0])?;
     for e in 0..n {
         say_entry(rt, s, t, e)?;
     }
     Ok(())
 }
 
-fn say_table(rt: &impl Print, s: &[u8; STATE_LENGTH], t: Slot) -> Result<()> {
-    let n = entries_in(s, t);
-    say_form(rt, b"table of #\n", [n as u64, 0, 0, 0])?;
-    say_entries(rt, s, t, n)
-}
-
 fn say_position(rt: &impl Print, s: &[u8; STATE_LENGTH], d: Slot, i: u32) -> Result<()> {
-    let p = position_at(s, d, i);
-    match p {
+    match position_at(s, d, i) {
         Position::Empty => Ok(()),
         Position::Page { frame, flags } => say_form(
             rt,
             b"  #: page @, flags &\n",
-            [i as u64, frame as u64, flags as u64, 0],
+            [u64::from(i), u64::from(frame), u64::from(flags), 0],
         ),
         Position::Child { object, flags } => say_form(
             rt,
             b"  #: child #, flags &\n",
-            [i as u64, object.0 as u64, flags as u64, 0],
+            [u64::from(i), u64::from(object.0), u64::from(flags), 0],
         ),
     }
-}
-
-fn say_positions(rt: &impl Print, s: &[u8; STATE_LENGTH], d: Slot, n: u32) -> Result<()> {
-    for i in 0..n {
-        say_position(rt, s, d, i)?;
-    }
-    Ok(())
 }
 
 fn say_directory(rt: &impl Print, s: &[u8; STATE_LENGTH], d: Slot) -> Result<()> {
@@ -76,10 +58,18 @@ fn say_directory(rt: &impl Print, s: &[u8; STATE_LENGTH], d: Slot) -> Result<()>
         rt,
         b"directory, start @, size order #, number order #\n\
         directory, top, start @, size order #, number order #\n",
-        row_of(g.top),
-        [g.start as u64, g.size as u64, g.number as u64, 0],
+        u32::from(g.top),
+        [
+            u64::from(g.start),
+            u64::from(g.size),
+            u64::from(g.number),
+            0,
+        ],
     )?;
-    say_positions(rt, s, d, positions_in(s, d))
+    for i in 0..positions_in(s, d) {
+        say_position(rt, s, d, i)?;
+    }
+    Ok(())
 }
 
 fn say_process(rt: &impl Print, s: &[u8; STATE_LENGTH], p: Slot) -> Result<()> {
@@ -88,7 +78,7 @@ fn say_process(rt: &impl Print, s: &[u8; STATE_LENGTH], p: Slot) -> Result<()> {
     say_form(
         rt,
         b"process, table #, directory #\n",
-        [t.0 as u64, d.0 as u64, 0, 0],
+        [u64::from(t.0), u64::from(d.0), 0, 0],
     )
 }
 
@@ -98,18 +88,19 @@ fn say_endpoint(rt: &impl Print, s: &[u8; STATE_LENGTH], e: Slot) -> Result<()> 
         rt,
         b"endpoint, count #\n\
         endpoint, count #, boot\n",
-        row_of(boot_mark_at(s, e)),
-        [n.0 as u64, 0, 0, 0],
+        u32::from(boot_mark_at(s, e)),
+        [u64::from(n.0), 0, 0, 0],
     )
 }
 
-// What stands in a slot by its first one; a free slot and a later one of a larger object have no line.
+// What stands in a slot by its first one; a free slot and a later one of a larger object have no line. Tags are numbers, as bytes of the
+// state have them (words::layout).
 fn say_slot(rt: &impl Print, s: &[u8; STATE_LENGTH], k: u8) -> Result<()> {
     let tag = tag_at(s, Slot(k));
     if tag < TABLE_TAG {
         return Ok(());
     }
-    say_form(rt, b"slot #: ", [k as u64, 0, 0, 0])?;
+    say_form(rt, b"slot #: ", [u64::from(k), 0, 0, 0])?;
     match tag {
         TABLE_TAG => say_table(rt, s, Slot(k)),
         DIRECTORY_TAG => say_directory(rt, s, Slot(k)),
@@ -120,14 +111,10 @@ fn say_slot(rt: &impl Print, s: &[u8; STATE_LENGTH], k: u8) -> Result<()> {
 
 const LAST_SLOT: u8 = (SLOT_COUNT - 1) as u8;
 
-fn say_slots(rt: &impl Print, s: &[u8; STATE_LENGTH]) -> Result<()> {
+pub fn show(rt: &impl Print, s: &[u8; STATE_LENGTH]) -> Result<()> {
+    say_form(rt, b"clock #\n", [u64::from(clock(s)), 0, 0, 0])?;
     for k in 0..=LAST_SLOT {
         say_slot(rt, s, k)?;
     }
     Ok(())
-}
-
-pub fn show(rt: &impl Print, s: &[u8; STATE_LENGTH]) -> Result<()> {
-    say_form(rt, b"clock #\n", [clock(s) as u64, 0, 0, 0])?;
-    say_slots(rt, s)
 }

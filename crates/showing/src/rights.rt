@@ -16,7 +16,7 @@ struct Naming {
 fn object_naming(row: u32, o: Slot, flags: u64) -> Naming {
     Naming {
         row,
-        numbers: [o.0 as u64, flags, 0, 0],
+        numbers: [u64::from(o.0), flags, 0, 0],
     }
 }
 
@@ -27,23 +27,22 @@ fn naming_of(kind: Kind, flags: u64) -> Naming {
         Kind::Endpoint(o) => object_naming(2, o, flags),
         Kind::Directory { object, low, high } => Naming {
             row: 3,
-            numbers: [object.0 as u64, flags, low as u64, high as u64],
+            numbers: [u64::from(object.0), flags, u64::from(low), u64::from(high)],
         },
         Kind::Memory { low, high } => Naming {
             row: 4,
-            numbers: [low.0 as u64, high.0 as u64, flags, 0],
+            numbers: [u64::from(low.0), u64::from(high.0), flags, 0],
         },
         Kind::Function { low, high } => Naming {
             row: 5,
-            numbers: [low as u64, high as u64, 0, 0],
+            numbers: [u64::from(low), u64::from(high), 0, 0],
         },
     }
 }
 
 // A function has a range and no flags; a directory's positions stand behind its flags.
 fn say_kind(rt: &impl Print, kind: Kind, flags: u32) -> Result<()> {
-    let n = naming_of(kind, flags as u64);
-    let numbers = n.numbers;
+    let Naming { row, numbers } = naming_of(kind, u64::from(flags));
     say_row(
         rt,
         b"table #, flags &|\
@@ -52,7 +51,7 @@ fn say_kind(rt: &impl Print, kind: Kind, flags: u32) -> Result<()> {
         directory #, flags &, positions #..#|\
         memory @..@, flags &|\
         function #..#|",
-        n.row,
+        row,
         numbers,
     )
 }
@@ -60,7 +59,7 @@ fn say_kind(rt: &impl Print, kind: Kind, flags: u32) -> Result<()> {
 fn say_frost(rt: &impl Print, frost: Frost) -> Result<()> {
     match frost {
         Frost::Thawed => Ok(()),
-        Frost::Frozen(stamp) => say_form(rt, b", frozen at #", [stamp as u64, 0, 0, 0]),
+        Frost::Frozen(stamp) => say_form(rt, b", frozen at #", [u64::from(stamp), 0, 0, 0]),
     }
 }
 
@@ -70,23 +69,20 @@ fn say_parent(rt: &impl Print, s: &[u8; STATE_LENGTH], p: u32) -> Result<()> {
         return Ok(());
     }
     let t = first_at(s, Slot((p / 2) as u8));
-    let first = 2 * (t.0 as u32);
-    let entry = std::num::wrapping_sub_u32(p, first);
-    say_form(rt, b", from #:#", [t.0 as u64, entry as u64, 0, 0])
+    let first = 2 * u32::from(t.0);
+    let entry = p.wrapping_sub(first);
+    say_form(rt, b", from #:#", [u64::from(t.0), u64::from(entry), 0, 0])
 }
 
 fn say_origin(rt: &impl Print, s: &[u8; STATE_LENGTH], origin: Origin) -> Result<()> {
     match origin {
-        Origin::Root => say_form(rt, b", root", NO_NUMBERS),
-        Origin::Under(p) => say_parent(rt, s, p),
+        None => say_form(rt, b", root", NO_NUMBERS),
+        Some(p) => say_parent(rt, s, p),
     }
 }
 
 pub(crate) fn say_right(rt: &impl Print, s: &[u8; STATE_LENGTH], c: Capability) -> Result<()> {
-    let kind = c.kind;
-    let frost = c.frost;
-    let origin = c.origin;
-    say_kind(rt, kind, c.flags)?;
-    say_frost(rt, frost)?;
-    say_origin(rt, s, origin)
+    say_kind(rt, c.kind, c.flags)?;
+    say_frost(rt, c.frost)?;
+    say_origin(rt, s, c.origin)
 }

@@ -12,7 +12,7 @@ use lib.Seq.{get_or-drop, drop-append-le, drop_at}
 use borrow.Author.Tests.{ne_eqb, le-leb}
 use Rattle.words.specs.Rights.{kind_no, object_of, low_of, high_of, stamp_of}
 use Rattle.words.specs.Fields.{slot}
-use Rattle.state.specs.Names.{Slot, Kind, Table, Directory, Memory, Process, Endpoint, Function, Frost, Thawed, Frozen, Origin, Root, Under, Capability, Geometry, Place, Blank, Holds, Position, Empty, Page, Child}
+use Rattle.state.specs.Names.{Slot, Kind, Table, Directory, Memory, Process, Endpoint, Function, Frost, Thawed, Frozen, Origin, None, Some, Capability, Geometry, Place, Position, Empty, Page, Child}
 use Rattle.state.specs.State.{Object, free, body, table, directory, process, endpoint, State, size_of}
 use Rattle.state.specs.Layout.{Laid}
 use Rattle.state.specs.Bytes.{le32, mark, each, frozen_no, parent_no, place_bytes, position_bytes, own_bytes, memory_bytes, tag_of, argument_of, note_bytes, bytes}
@@ -31,8 +31,8 @@ pub record RightFits (c : Capability) : Type 0 where
   pub parent : parent_no c.origin < 2 ^ 32
 
 abbrev pub PlaceFits : Place → Type 0
-PlaceFits Blank = Unit {0}
-PlaceFits (Holds c) = RightFits c
+PlaceFits None = Unit {0}
+PlaceFits (Some c) = RightFits c
 
 -- a position's flags stand in the bytes uncut, as a note's argument does, so nothing is asked of them
 abbrev pub PositionFits : Position → Type 0
@@ -51,7 +51,7 @@ pub record ShapeFits (g : Geometry) (es : List Position) : Type 0 where
 abbrev pub ObjectFits : Object → Type 0
 ObjectFits free = Unit {0}
 ObjectFits (body h) = Unit {0}
-ObjectFits (table ps) = (k : ℕ) → k < length ps → PlaceFits (get_or ps k Blank)
+ObjectFits (table ps) = (k : ℕ) → k < length ps → PlaceFits (get_or ps k None)
 ObjectFits (directory g es) = ShapeFits g es
 ObjectFits (process t d) = (t.0 < 256) × (d.0 < 256)
 ObjectFits (endpoint c b) = c.0 < 2 ^ 32
@@ -95,8 +95,8 @@ frost_back (Frozen s) = refl
 
 origin_back : (o : Origin) → origin_from (parent_no o) ≡ o
 unfolding origin_from
-origin_back Root = refl
-origin_back (Under n) =
+origin_back None = refl
+origin_back (Some n) =
     let z : eqb (n + 1) 0 ≡ false = ne_eqb (n + 1) 0 (omega arith) in
     let e : n + 1 - 1 ≡ n = omega arith in
     rw (z, e)
@@ -107,8 +107,8 @@ word_first v rest h = word_back v h
 
 pub place_back : (p : Place) (rest : List ℕ) → PlaceFits p → place_of (place_bytes p ++ rest) 0 ≡ p
 unfolding place_of place_bytes word_at place_from
-place_back Blank rest h = refl
-place_back (Holds c) rest h =
+place_back None rest h = refl
+place_back (Some c) rest h =
     let k = c.kind in
     let e₁ = word_back (kind_no k) (kind_small k) in
     let e₂ = slot_back (object_of k) h.object in
@@ -160,7 +160,7 @@ object_back (body f) rest h = refl
 object_back (table ps) rest h =
     ap table
     (ap (λ (l : List ℕ). listed (length ps) (λ i. place_of l (32 * i))) (append_assoc (each place_bytes ps) (pad (table ps)) rest)
-    ∙ pieces_back Blank place_of place_bytes 32 PlaceFits place_length place_drop place_back ps (pad (table ps) ++ rest) h)
+    ∙ pieces_back None place_of place_bytes 32 PlaceFits place_length place_drop place_back ps (pad (table ps) ++ rest) h)
 object_back (directory g es) rest h =
     let e₁ = word_back g.size h.size in
     let e₂ = mark_back g.top in

@@ -12,7 +12,7 @@ use lib.Seq.{get_or-drop}
 use borrow.Author.Tests.{eqb-true, eqb-false}
 use Rattle.words.specs.Sizes.{slot_size, slot_count, memory_length, clock_offset, entry_size, header_size}
 use Rattle.words.specs.Fields.{slot, count}
-use Rattle.state.specs.Names.{Slot, Count, Geometry, Place, Position, Blank, Empty}
+use Rattle.state.specs.Names.{Slot, Count, Geometry, Place, Position, None, Empty}
 use Rattle.state.specs.State.{Object, free, body, table, directory, process, endpoint, State, places_of, positions_of, no_shape, shape_of, table_named, directory_named, count_of, boot_mark, is_free, first_of, obj_at, entries_in, place_at, positions_in, position_at, shape_at}
 use Rattle.state.specs.Bytes.{tag_of}
 use Rattle.state.specs.Read.{word_at, marked, listed, place_of, position_of, positions_for, shape_from, object_from, slot_from, read}
@@ -227,8 +227,8 @@ free_tag (process t d) = refl
 free_tag (endpoint c b) = refl
 
 -- ---- a place of a table; past its entries it is blank
-pub place_past : (st : State) (t : Slot) (e : ℕ) → entries_in st t ≤ e → place_at st t e ≡ Blank
-place_past st t e h = get_or-eq_default (places_of (obj_at st t)) Blank h
+pub place_past : (st : State) (t : Slot) (e : ℕ) → entries_in st t ≤ e → place_at st t e ≡ None
+place_past st t e h = get_or-eq_default (places_of (obj_at st t)) None h
 
 pub place_known : (b : List ℕ) (t : Slot) (e : ℕ) → t.0 < slot_count → e < entries_in (read b) t
     → place_at (read b) t e ≡ place_of b (slot_size * t.0 + entry_size * e)
@@ -237,8 +237,8 @@ place_known b t e ht he = go (eqb (tag_byte b t.0) 2) refl
     go : (z : Bool) → eqb (tag_byte b t.0) 2 ≡ z → place_at (read b) t e ≡ place_of b (slot_size * t.0 + entry_size * e)
     go true q =
         let two : tag_byte b t.0 ≡ 2 = eqb-true _ _ q in
-        ap (λ (ps : List Place). get_or ps e Blank) (places_known b t ht two)
-        ∙ listed_at (argument_byte b t.0) _ Blank e (omega (arith, entries_known b t ht two))
+        ap (λ (ps : List Place). get_or ps e None) (places_known b t ht two)
+        ∙ listed_at (argument_byte b t.0) _ None e (omega (arith, entries_known b t ht two))
         ∙ place_drop b (slot_size * t.0) (entry_size * e)
     go false q = absurd (not-suc-le-zero (rw (entries_none b t ht (eqb-false _ _ q)) at he))
 

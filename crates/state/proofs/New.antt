@@ -7,7 +7,7 @@ use native.Mathlib.Omega.{arith}
 use lib.ListN.{length, replicate, length-replicate, replicate-append-replicate}
 use Rattle.words.specs.Sizes.{slots_for}
 use Rattle.words.specs.Fields.{slot, count}
-use Rattle.state.specs.Names.{Slot, Geometry, Place, Blank, Position, Empty}
+use Rattle.state.specs.Names.{Slot, Geometry, Place, None, Position, Empty}
 use Rattle.state.specs.State.{Object, free, body, table, directory, process, endpoint, State, size_of, obj_at, splice, raise}
 use Rattle.state.specs.Layout.{Laid}
 use Rattle.state.specs.Bytes.{each, words_bytes, mark, place_bytes, position_bytes, own_bytes, memory_bytes, tag_of, argument_of, note_of, note_bytes, bytes}
@@ -20,20 +20,20 @@ abbrev pub Starts : Object → (n a b c : ℕ) → Type 0
 Starts o n a b c = memory_bytes o ≡ words_bytes (a ∷ b ∷ c ∷ []) ++ replicate (64 * n - 12) 0
 
 -- the slots that it takes
-pub table_slots : (n : ℕ) → size_of (table (replicate n Blank)) ≡ slots_for (32 * n)
-table_slots n = ap (λ (i : ℕ). slots_for (32 * i)) (length-replicate n Blank)
+pub table_slots : (n : ℕ) → size_of (table (replicate n None)) ≡ slots_for (32 * n)
+table_slots n = ap (λ (i : ℕ). slots_for (32 * i)) (length-replicate n None)
 
 pub directory_slots : (g : Geometry) (n : ℕ) → size_of (directory g (replicate n Empty)) ≡ slots_for (32 + 8 * n)
 directory_slots g n = ap (λ (i : ℕ). slots_for (32 + 8 * i)) (length-replicate n Empty)
 
-pub new_table : (n : ℕ) → 1 ≤ n → Starts (table (replicate n Blank)) (slots_for (32 * n)) 0 0 0
+pub new_table : (n : ℕ) → 1 ≤ n → Starts (table (replicate n None)) (slots_for (32 * n)) 0 0 0
 unfolding place_bytes
 new_table n h =
-    let ps : List Place = replicate n Blank in
-    let long : length ps ≡ n = length-replicate n Blank in
+    let ps : List Place = replicate n None in
+    let long : length ps ≡ n = length-replicate n None in
     let size : size_of (table ps) ≡ slots_for (32 * n) = table_slots n in
     let k : ℕ = 64 * slots_for (32 * n) in
-    zeros_more (each place_bytes ps) (32 * n) (64 * size_of (table ps) - length (each place_bytes ps)) k (each_zeros place_bytes Blank 32 refl n) (omega (arith, table_length ps))
+    zeros_more (each place_bytes ps) (32 * n) (64 * size_of (table ps) - length (each place_bytes ps)) k (each_zeros place_bytes None 32 refl n) (omega (arith, table_length ps))
     ∙ sym (zeros_more (words_bytes (0 ∷ 0 ∷ 0 ∷ [])) 12 (k - 12) k refl (omega arith))
 
 -- the header, and empty positions
@@ -67,9 +67,9 @@ module _ (st : State) (w : Laid st) (s : Slot) where
       bytes_raise st w s o (rw es some) (rw es room.fits) (λ i h. room.none i (rw es at h))
       ∙ ap₂ (λ (v u : List ℕ). splice (64 * s.0) v u) em (ap₂ notes es ea)
 
-  pub bytes_new_table : (n : ℕ) → 1 ≤ n → Vacant st s (slots_for (32 * n)) → bytes (raise st s (table (replicate n Blank))) ≡ with_new (bytes st) s (slots_for (32 * n)) 2 n 0 0 0
+  pub bytes_new_table : (n : ℕ) → 1 ≤ n → Vacant st s (slots_for (32 * n)) → bytes (raise st s (table (replicate n None))) ≡ with_new (bytes st) s (slots_for (32 * n)) 2 n 0 0 0
   bytes_new_table n h room =
-      bytes_new (table (replicate n Blank)) (slots_for (32 * n)) n 0 0 0 (table_slots n) (length-replicate n Blank) (new_table n h) (omega arith) room
+      bytes_new (table (replicate n None)) (slots_for (32 * n)) n 0 0 0 (table_slots n) (length-replicate n None) (new_table n h) (omega arith) room
 
   pub bytes_new_directory : (g : Geometry) (n : ℕ) → Vacant st s (slots_for (32 + 8 * n))
       → bytes (raise st s (directory g (replicate n Empty))) ≡ with_new (bytes st) s (slots_for (32 + 8 * n)) 3 g.number g.size (mark g.top) g.start

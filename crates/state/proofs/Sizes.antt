@@ -8,7 +8,7 @@ use native.Mathlib.Omega.{arith}
 use borrow.Author.Tests.{eqb-true}
 use lib.ListN.{length, get_or, take, set, replicate, length-append, length-replicate}
 use Rattle.words.specs.Fields.{slot}
-use Rattle.state.specs.Names.{Slot, Place, Blank, Holds, Position, Empty, Page, Child}
+use Rattle.state.specs.Names.{Slot, Place, None, Some, Position, Empty, Page, Child}
 use Rattle.state.specs.State.{Object, free, body, table, directory, process, endpoint, State, size_of}
 use Rattle.state.specs.Layout.{goes_on, lay, Laid}
 use Rattle.state.specs.Bytes.{each, place_bytes, position_bytes, own_bytes, memory_bytes, tag_of, note_bytes, le32, bytes}
@@ -16,8 +16,8 @@ use Rattle.state.proofs.Pieces.{offset, offset_fits, even_length}
 
 pub place_length : (p : Place) → length (place_bytes p) ≡ 32
 unfolding place_bytes
-place_length Blank = refl
-place_length (Holds c) = refl
+place_length None = refl
+place_length (Some c) = refl
 
 pub position_length : (e : Position) → length (position_bytes e) ≡ 8
 position_length Empty = refl

@@ -2,7 +2,7 @@
 use Rattle.std.specs.Prelude.{Bool, true, false, List, [], ◌∷◌, ◌++◌, ℕ, ◌+◌, ◌*◌, ◌-◌, ◌/◌, ◌%◌, length, replicate}
 use Rattle.words.specs.Sizes.{slot_size}
 use Rattle.words.specs.Rights.{kind_no, object_of, low_of, high_of, stamp_of}
-use Rattle.state.specs.Names.{Frost, Thawed, Frozen, Origin, Root, Under, Capability, Place, Blank, Holds, Position, Empty, Page, Child}
+use Rattle.state.specs.Names.{Frost, Thawed, Frozen, Origin, None, Some, Capability, Place, Position, Empty, Page, Child}
 use Rattle.state.specs.State.{Object, free, body, table, directory, process, endpoint, State, size_of}
 
 -- ---- words of four bytes, the lowest first
@@ -29,8 +29,8 @@ frozen_no (Frozen s) = 1
 
 -- 0 for a root, n + 1 under the place of number n
 abbrev pub parent_no : Origin → ℕ
-parent_no Root = 0
-parent_no (Under n) = n + 1
+parent_no None = 0
+parent_no (Some n) = n + 1
 
 abbrev pub right_words : Capability → List ℕ
 right_words c =
@@ -38,8 +38,8 @@ right_words c =
     ∷ frozen_no c.frost ∷ stamp_of c.frost ∷ parent_no c.origin ∷ []
 
 abbrev pub place_words : Place → List ℕ
-place_words Blank = 0 ∷ 0 ∷ 0 ∷ 0 ∷ 0 ∷ 0 ∷ 0 ∷ 0 ∷ []
-place_words (Holds c) = right_words c
+place_words None = 0 ∷ 0 ∷ 0 ∷ 0 ∷ 0 ∷ 0 ∷ 0 ∷ 0 ∷ []
+place_words (Some c) = right_words c
 
 unfoldable pub place_bytes : Place → List ℕ
 place_bytes p = words_bytes (place_words p)

@@ -4,7 +4,7 @@ use Rattle.std.specs.Prelude.{Bool, true, false, List, [], ◌∷◌, ℕ, zero,
 use Rattle.words.specs.Sizes.{slot_size, slot_count, memory_length, clock_offset, entry_size, header_size, most_number_order, position_size}
 use Rattle.words.specs.Tests.{choose}
 use Rattle.words.specs.Fields.{slot, address, count}
-use Rattle.state.specs.Names.{Slot, Kind, Table, Directory, Memory, Process, Endpoint, Function, Frost, Thawed, Frozen, Origin, Root, Under, Geometry, Place, Blank, Holds, Position, Empty, Page, Child}
+use Rattle.state.specs.Names.{Slot, Kind, Table, Directory, Memory, Process, Endpoint, Function, Frost, Thawed, Frozen, Origin, None, Some, Geometry, Place, Position, Empty, Page, Child}
 use Rattle.state.specs.State.{Object, free, body, table, directory, process, endpoint, State}
 
 -- four bytes, the lowest first
@@ -29,10 +29,10 @@ unfoldable pub frost_from : ℕ → ℕ → Frost
 frost_from m s = choose (eqb m 0) Thawed (Frozen s)
 
 unfoldable pub origin_from : ℕ → Origin
-origin_from w = choose (eqb w 0) Root (Under (w - 1))
+origin_from w = choose (eqb w 0) None (Some (w - 1))
 
 abbrev pub held : Kind → ℕ → Frost → Origin → Place
-held k f x r = Holds (record { kind = k; flags = f; frost = x; origin = r })
+held k f x r = Some (record { kind = k; flags = f; frost = x; origin = r })
 
 -- by the kind's number
 unfoldable pub place_from : ℕ → Slot → ℕ → ℕ → ℕ → Frost → Origin → Place
@@ -43,7 +43,7 @@ place_from t o l h f x r =
     (choose (eqb t 4) (held (Process o) f x r)
     (choose (eqb t 5) (held (Endpoint o) f x r)
     (choose (eqb t 6) (held (Function l h) f x r)
-    Blank)))))
+    None)))))
 
 -- where the fields of an entry stand behind its kind
 abbrev pub flags_at : ℕ

@@ -2,7 +2,7 @@
 use Rattle.std.specs.Prelude.{Bool, true, false, List, [], ◌∷◌, ◌++◌, ℕ, ◌+◌, ◌*◌, ◌-◌, ◌/◌, length, get_or, take, drop, replicate, set}
 use Rattle.words.specs.Sizes.{entry_size, header_size, position_size, slots_for}
 use Rattle.words.specs.Fields.{slot}
-use Rattle.state.specs.Names.{Slot, Count, Spot, Geometry, Place, Blank, Position, Empty}
+use Rattle.state.specs.Names.{Slot, Count, Spot, Geometry, Place, None, Position, Empty}
 
 -- what stands in a slot. `body h`: the object whose first slot is h goes on here
 pub data Object : Type 0 where
@@ -114,7 +114,7 @@ abbrev pub entries_in : State → Slot → ℕ
 entries_in st t = length (places_of (obj_at st t))
 
 abbrev pub place_at : State → Slot → ℕ → Place
-place_at st t e = get_or (places_of (obj_at st t)) e Blank
+place_at st t e = get_or (places_of (obj_at st t)) e None
 
 abbrev pub positions_in : State → Slot → ℕ
 positions_in st d = length (positions_of (obj_at st d))

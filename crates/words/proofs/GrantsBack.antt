@@ -8,7 +8,7 @@ use lib.Arith.{digits_div, digits_mod}
 use borrow.Author.Tests.{eqb-true, eq-eqb, lt-ltb, ltb-true}
 use Rattle.words.specs.Names.{Grant, Packed, CapFlag}
 use Rattle.words.specs.Tests.{◌&◌}
-use Rattle.words.specs.Try.{no!, ok!, ◌>>◌, need}
+use Rattle.words.specs.Try.{Err, Ok, ◌>>◌, need}
 use Rattle.words.specs.Fields.{address}
 use Rattle.words.specs.Grants.{upper_of, lower_of, unpack, packable, packed, pack}
 use Rattle.words.proofs.Tests.{and_left, and_right}
@@ -82,11 +82,11 @@ unpack_packed g p b = λ i. record { lower = address (lo i); upper = address (up
     fl : (packed g).nc % 64 ≡ g.flags
     fl = flags_back l u g.flags p.lower p.upper p.flags b
 
-pub pack_gives : (g : Grant) → packable g ≡ true → pack g ≡ ok! (packed g)
+pub pack_gives : (g : Grant) → packable g ≡ true → pack g ≡ Ok (packed g)
 unfolding pack ◌>>◌ need
 pack_gives g h = rw h
 
-pub pack_refuses : (g : Grant) → packable g ≡ false → pack g ≡ no! CapFlag
+pub pack_refuses : (g : Grant) → packable g ≡ false → pack g ≡ Err CapFlag
 unfolding pack ◌>>◌ need
 pack_refuses g h = rw h
 
@@ -130,13 +130,13 @@ module _ (nc p3 : ℕ) (bn : nc < 2 ^ 32) (three : nc / 65536 % 64 ≡ 3) where
       q : (packed (unpack (record { nc = nc; p3 = p3 }))).p3 ≡ p3
       q = rw (upper_high, lower_high) p3_back
 
-pub unpack_pack : (g : Grant) (w : Packed) → g.lower.0 < 2 ^ 32 → pack g ≡ ok! w → unpack w ≡ g
+pub unpack_pack : (g : Grant) (w : Packed) → g.lower.0 < 2 ^ 32 → pack g ≡ Ok w → unpack w ≡ g
 unpack_pack g w b h = go (packable g) refl
   where
     go : (t : Bool) → packable g ≡ t → unpack w ≡ g
     go true e = ap unpack (ok_eq _ _ (sym h ∙ pack_gives g e)) ∙ unpack_packed g (packable_facts g e) b
     go false e = not_no _ _ _ (sym (pack_refuses g e) ∙ h)
 
-pub pack_unpack : (w : Packed) → w.nc < 2 ^ 32 → w.nc / 65536 % 64 ≡ 3 → pack (unpack w) ≡ ok! w
+pub pack_unpack : (w : Packed) → w.nc < 2 ^ 32 → w.nc / 65536 % 64 ≡ 3 → pack (unpack w) ≡ Ok w
 pack_unpack w b three =
-    pack_gives (unpack w) (facts_packable (unpack w) (words_packable w.nc w.p3 b three)) ∙ ap ok! (packed_unpack w.nc w.p3 b three)
+    pack_gives (unpack w) (facts_packable (unpack w) (words_packable w.nc w.p3 b three)) ∙ ap Ok (packed_unpack w.nc w.p3 b three)

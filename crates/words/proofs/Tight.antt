@@ -1,39 +1,14 @@
 -- "prove that two results satisfying it are equal": each public function's contract determines its answer, and all that was lent.
 use mathlib.Core.Path.{refl}
 use Rattle.words.specs.Determined.{Determined}
-use Rattle.words.proofs.Told.{same_packing}
 use Rattle.words.proofs as words
 use Rattle.words.specs.contracts as contracts
-
-pub why_right : Determined contracts.answers.why_right.ended words.answers.why_right.Reads.Learnt
-why_right κs a x y v w p q = (cc, refl)
-
-pub why_slot : Determined contracts.answers.why_slot.ended words.answers.why_slot.Reads.Learnt
-why_slot κs a x y v w p q = (cc, refl)
-
-pub why_span : Determined contracts.answers.why_span.ended words.answers.why_span.Reads.Learnt
-why_span κs a x y v w p q = (cc, refl)
-
-pub why_stretch : Determined contracts.answers.why_stretch.ended words.answers.why_stretch.Reads.Learnt
-why_stretch κs a x y v w p q = (cc, refl)
-
-pub why_range : Determined contracts.answers.why_range.ended words.answers.why_range.Reads.Learnt
-why_range κs a x y v w p q = (cc, refl)
-
-pub why_spot : Determined contracts.answers.why_spot.ended words.answers.why_spot.Reads.Learnt
-why_spot κs a x y v w p q = (cc, refl)
-
-pub why_frame : Determined contracts.answers.why_frame.ended words.answers.why_frame.Reads.Learnt
-why_frame κs a x y v w p q = (cc, refl)
 
 pub is_thawed : Determined contracts.capabilities.is_thawed.ended words.capabilities.is_thawed.Reads.Learnt
 is_thawed κs a x y v w p q = (cc, refl)
 
-pub is_root : Determined contracts.capabilities.is_root.ended words.capabilities.is_root.Reads.Learnt
-is_root κs a x y v w p q = (cc, refl)
-
-pub is_blank : Determined contracts.capabilities.is_blank.ended words.capabilities.is_blank.Reads.Learnt
-is_blank κs a x y v w p q = (cc, refl)
+pub stamp_of : Determined contracts.capabilities.stamp_of.ended words.capabilities.stamp_of.Reads.Learnt
+stamp_of κs a x y v w p q = (cc, refl)
 
 pub place_thawed : Determined contracts.capabilities.place_thawed.ended words.capabilities.place_thawed.Reads.Learnt
 place_thawed κs a x y v w p q = (cc, refl)
@@ -78,7 +53,7 @@ pub unpack_grant : Determined contracts.grants.unpack_grant.ended words.grants.u
 unpack_grant κs a x y v w p q = (cc, refl)
 
 pub pack_grant : Determined contracts.grants.pack_grant.ended words.grants.pack_grant.Reads.Learnt
-pack_grant κs a x y v w p q = (same_packing x y (cc), refl)
+pack_grant κs a x y v w p q = (cc, refl)
 
 pub kind_number : Determined contracts.kinds.kind_number.ended words.kinds.kind_number.Reads.Learnt
 kind_number κs a x y v w p q = (cc, refl)
@@ -95,5 +70,14 @@ high_of κs a x y v w p q = (cc, refl)
 pub all_flags : Determined contracts.kinds.all_flags.ended words.kinds.all_flags.Reads.Learnt
 all_flags κs a x y v w p q = (cc, refl)
 
+pub root_right : Determined contracts.kinds.root_right.ended words.kinds.root_right.Reads.Learnt
+root_right κs a x y v w p q = (cc, refl)
+
 pub refusal_number : Determined contracts.refusals.refusal_number.ended words.refusals.refusal_number.Reads.Learnt
 refusal_number κs a x y v w p q = (cc, refl)
+
+pub slots_for : Determined contracts.sizes.slots_for.ended words.sizes.slots_for.Reads.Learnt
+slots_for κs a x y v w p q = (cc, refl)
+
+pub is_multiple : Determined contracts.orders.is_multiple.ended words.orders.is_multiple.Reads.Learnt
+is_multiple κs a x y v w p q = (cc, refl)

@@ -6,5 +6,4 @@ pub mod Refusals
 pub mod Rights
 pub mod Fields
 pub mod Grants
-pub mod Answers
 pub mod Determined

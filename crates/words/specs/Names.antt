@@ -1,4 +1,5 @@
 -- The declared types of src/ under one roof: the specs and proofs of this crate bring them from here.
+use Rattle.std.specs.Prelude.{ℕ, Option}
 pub use Rattle.words.specs.declared.numbers.Slot.{Slot}
 pub use Rattle.words.specs.declared.numbers.CapabilityNumber.{CapabilityNumber}
 pub use Rattle.words.specs.declared.numbers.KernelAddress.{KernelAddress}
@@ -9,18 +10,14 @@ pub use Rattle.words.specs.declared.capabilities.Kind.{Kind}
 pub use Rattle.words.specs.declared.capabilities.Kind.TheVariants.{Table, Directory, Memory, Process, Endpoint, Function}
 pub use Rattle.words.specs.declared.capabilities.Frost.{Frost}
 pub use Rattle.words.specs.declared.capabilities.Frost.TheVariants.{Thawed, Frozen}
-pub use Rattle.words.specs.declared.capabilities.Origin.{Origin}
-pub use Rattle.words.specs.declared.capabilities.Origin.TheVariants.{Root, Under}
+pub use Rattle.std.specs.Prelude.{None, Some}
 pub use Rattle.words.specs.declared.capabilities.Capability.{Capability}
-pub use Rattle.words.specs.declared.capabilities.Place.{Place}
-pub use Rattle.words.specs.declared.capabilities.Place.TheVariants.{Blank, Holds}
 pub use Rattle.words.specs.declared.capabilities.Position.{Position}
 pub use Rattle.words.specs.declared.capabilities.Position.TheVariants.{Empty, Page, Child}
 pub use Rattle.words.specs.declared.capabilities.Geometry.{Geometry}
 pub use Rattle.words.specs.declared.fields.Words.{Words}
 pub use Rattle.words.specs.declared.grants.Grant.{Grant}
 pub use Rattle.words.specs.declared.grants.Packed.{Packed}
-pub use Rattle.words.specs.declared.grants.Packing.{Packing}
 pub use Rattle.words.specs.declared.actions.Spot.{Spot}
 pub use Rattle.words.specs.declared.actions.Action.{Action}
 pub use Rattle.words.specs.declared.actions.Action.TheVariants.{CreateTable, CreateDirectory, CreateProcess, CreateEndpoint, Delete, Fill, Freeze, Remove, SetPosition, ChangeTable, ChangeDirectory, SetCount, Answer}
@@ -28,3 +25,11 @@ pub use Rattle.words.specs.declared.capabilities.Span.{Span}
 pub use Rattle.words.specs.declared.capabilities.Stretch.{Stretch}
 pub use Rattle.words.specs.declared.capabilities.FunctionRange.{FunctionRange}
 pub use Rattle.words.specs.declared.capabilities.Frame.{Frame}
+
+-- "a parent, unless it is a root": the parent's place by its number
+abbrev pub Origin : Type 0
+Origin = Option ℕ
+
+-- an entry of a table: blank, or what it holds
+abbrev pub Place : Type 0
+Place = Option Capability

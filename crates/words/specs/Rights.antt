@@ -1,7 +1,7 @@
 -- Kinds, flags and ranges of a right.
 use Rattle.std.specs.Prelude.{Bool, true, false, ℕ, ◌^◌, ◌/◌, ◌%◌, eqb, ltb, leb}
 use Rattle.std.specs.Int.Bits.{bit_and}
-use Rattle.words.specs.Names.{Slot, Kind, Table, Directory, Memory, Process, Endpoint, Function, Frost, Thawed, Frozen, Origin, Root, Under, Capability, Place, Blank, Holds}
+use Rattle.words.specs.Names.{Slot, Kind, Table, Directory, Memory, Process, Endpoint, Function, Frost, Thawed, Frozen, Origin, None, Some, Capability, Place}
 use Rattle.words.specs.Tests.{◌&◌}
 use Rattle.words.specs.Fields.{slot}
 
@@ -163,12 +163,12 @@ inside k p = eqb (kind_no k) (kind_no p) & eqb (object_of k).0 (object_of p).0 &
 
 -- "Creation makes the one root of an object, with every flag of its kind"
 abbrev pub root_right : Kind → Capability
-root_right k = record { kind = k; flags = all_flags k; frost = Thawed; origin = Root }
+root_right k = record { kind = k; flags = all_flags k; frost = Thawed; origin = None }
 
 -- ---- the marks of a right
 abbrev pub is_root : Origin → Bool
-is_root Root = true
-is_root (Under p) = false
+is_root None = true
+is_root (Some p) = false
 
 abbrev pub is_thawed : Frost → Bool
 is_thawed Thawed = true
@@ -180,14 +180,14 @@ stamp_of (Frozen s) = s
 
 -- the child's parent is the place of number p
 abbrev pub is_under : ℕ → Origin → Bool
-is_under p Root = false
-is_under p (Under q) = eqb q p
+is_under p None = false
+is_under p (Some q) = eqb q p
 
 abbrev pub is_blank : Place → Bool
-is_blank Blank = true
-is_blank (Holds c) = false
+is_blank None = true
+is_blank (Some c) = false
 
 -- a blank place is not frozen
 abbrev pub place_thawed : Place → Bool
-place_thawed Blank = true
-place_thawed (Holds c) = is_thawed c.frost
+place_thawed None = true
+place_thawed (Some c) = is_thawed c.frost

@@ -1,22 +1,22 @@
--- Judgements: a refusal, or what was found. The rules are written with `do` over them, an argument a line.
-use Rattle.std.specs.Prelude.{Bool, true, false}
+-- Judgements: what was found, or a refusal. The rules are written with `do` over them, an argument a line.
+use Rattle.std.specs.Prelude.{Bool, true, false, Result}
 use Rattle.words.specs.Names.{Refusal}
+pub use Rattle.std.specs.Prelude.{Ok, Err}
 
-pub data Try (A : Type 0) : Type 0 where
-  no! : Refusal → Try A
-  ok! : A → Try A
+abbrev pub Try : Type 0 → Type 0
+Try A = Result A Refusal
 
 infixl 20 ◌>>=◌
 unfoldable pub ◌>>=◌ : {A B : Type 0} → Try A → (A → Try B) → Try B
-no! r >>= f = no! r
-ok! a >>= f = f a
+Err r >>= f = Err r
+Ok a >>= f = f a
 
 infixl 20 ◌>>◌
 unfoldable pub ◌>>◌ : {A B : Type 0} → Try A → Try B → Try B
-no! r >> f = no! r
-ok! a >> f = f
+Err r >> f = Err r
+Ok a >> f = f
 
 -- a test, and the refusal where it fails
-unfoldable pub need : Bool → Refusal → Try Bool
-need true r = ok! true
-need false r = no! r
+unfoldable pub need : Bool → Refusal → Try (Unit {0})
+need true r = Ok tt
+need false r = Err r

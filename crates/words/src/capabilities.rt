@@ -1,7 +1,7 @@
 // What a table and a directory hold. "A capability has a kind, flags, a range where the kind has one, the object,
 // a frozen mark with its stamp, and a parent, unless it is a root."
 ghost use Rattle.std.specs.Prelude.{◌≡◌};
-ghost use Rattle.words.specs.Rights.{is_thawed, is_root, is_blank, place_thawed};
+ghost use Rattle.words.specs.Rights.{is_thawed, place_thawed, stamp_of};
 
 use crate::numbers::{KernelAddress, Slot};
 
@@ -26,19 +26,15 @@ pub enum Kind {
     },
 }
 
-// The frozen mark, with its stamp.
+// The frozen mark, with its stamp. No Option, which it has the shape of: a right that has settled (document 02, #104) is a third case.
 #[derive(Clone, Copy)]
 pub enum Frost {
     Thawed,
     Frozen(u32),
 }
 
-// A root, or the parent's place by its number: 2 * first slot of the table + entry.
-#[derive(Clone, Copy)]
-pub enum Origin {
-    Root,
-    Under(u32),
-}
+// "a parent, unless it is a root": the parent's place by its number, 2 * first slot of the table + entry; a root has none.
+pub type Origin = Option<u32>;
 
 #[derive(Clone, Copy)]
 pub struct Capability {
@@ -48,12 +44,8 @@ pub struct Capability {
     pub origin: Origin,
 }
 
-// An entry of a table.
-#[derive(Clone, Copy)]
-pub enum Place {
-    Blank,
-    Holds(Capability),
-}
+// An entry of a table: blank, or what it holds.
+pub type Place = Option<Capability>;
 
 // An entry of a directory.
 #[derive(Clone, Copy)]
@@ -103,27 +95,16 @@ pub struct Frame {
 pub fn is_thawed(f: Frost) -> bool
     ensures { result ≡ is_thawed f }
 {
+    matches!(f, Frost::Thawed)
+}
+
+// The stamp of the frozen mark; 0 where there is none.
+pub fn stamp_of(f: Frost) -> u32
+    ensures { result ≡ stamp_of f }
+{
     match f {
-        Frost::Thawed => true,
-        Frost::Frozen(_) => false,
-    }
-}
-
-pub fn is_root(o: Origin) -> bool
-    ensures { result ≡ is_root o }
-{
-    match o {
-        Origin::Root => true,
-        Origin::Under(_) => false,
-    }
-}
-
-pub fn is_blank(p: Place) -> bool
-    ensures { result ≡ is_blank p }
-{
-    match p {
-        Place::Blank => true,
-        Place::Holds(_) => false,
+        Frost::Thawed => 0,
+        Frost::Frozen(stamp) => stamp,
     }
 }
 
@@ -132,10 +113,7 @@ pub fn place_thawed(p: Place) -> bool
     ensures { result ≡ place_thawed p }
 {
     match p {
-        Place::Blank => true,
-        Place::Holds(c) => {
-            let f = c.frost;
-            is_thawed(f)
-        }
+        None => true,
+        Some(c) => is_thawed(c.frost),
     }
 }

@@ -1,6 +1,6 @@
 // Memory grants: "upper address = P3.D1 over N[15:6] and six zeros, lower = P3.D0 over C[15:6] and six zeros, flags = C[5:0]".
 ghost use Rattle.std.specs.Prelude.{◌≡◌};
-ghost use Rattle.words.specs.Grants.{pack, unpack, told};
+ghost use Rattle.words.specs.Grants.{pack, unpack};
 
 use crate::calls::DELEGATE;
 use crate::fields::HALF;
@@ -27,12 +27,6 @@ pub struct Packed {
     pub p3: u32,
 }
 
-#[derive(Clone, Copy)]
-pub enum Packing {
-    Words(Packed),
-    Refused(Refusal),
-}
-
 // "unpacking takes every pair of words"
 pub fn unpack_grant(w: Packed) -> Grant
     ensures { result ≡ unpack w }
@@ -49,8 +43,8 @@ pub fn unpack_grant(w: Packed) -> Grant
 }
 
 // "Packing writes call number 3 and gives −5 for an address off 64 or flags above 63"
-pub fn pack_grant(g: Grant) -> Packing
-    ensures { told result ≡ pack g }
+pub fn pack_grant(g: Grant) -> Result<Packed, Refusal>
+    ensures { result ≡ pack g }
 {
     let lower = g.lower;
     let upper = g.upper;
@@ -58,15 +52,15 @@ pub fn pack_grant(g: Grant) -> Packing
     let u = upper.0;
     let f = g.flags;
     if l % GRANT_UNIT != 0 {
-        return Packing::Refused(Refusal::CapFlag);
+        return Err(Refusal::CapFlag);
     }
     if u % GRANT_UNIT != 0 {
-        return Packing::Refused(Refusal::CapFlag);
+        return Err(Refusal::CapFlag);
     }
     if FLAG_SETS <= f {
-        return Packing::Refused(Refusal::CapFlag);
+        return Err(Refusal::CapFlag);
     }
-    Packing::Words(Packed {
+    Ok(Packed {
         nc: (u % HALF + DELEGATE) * HALF + (l % HALF + f),
         p3: u / HALF * HALF + l / HALF,
     })

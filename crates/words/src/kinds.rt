@@ -1,8 +1,8 @@
 // The parts of a kind as plain numbers, 0 where the kind has none: what a table entry stores of it.
 ghost use Rattle.std.specs.Prelude.{◌≡◌};
-ghost use Rattle.words.specs.Rights.{kind_no, object_of, low_of, high_of, all_flags};
+ghost use Rattle.words.specs.Rights.{kind_no, object_of, low_of, high_of, all_flags, root_right};
 
-use crate::capabilities::Kind;
+use crate::capabilities::{Capability, Frost, Kind};
 use crate::flag_bits::{
     DIRECTORY_FLAGS, ENDPOINT_FLAGS, FUNCTION_FLAGS, MEMORY_FLAGS, PROCESS_FLAGS, TABLE_FLAGS,
 };
@@ -16,15 +16,11 @@ pub fn kind_number(k: Kind) -> u32
 {
     match k {
         Kind::Table(_) => TABLE_KIND,
-        Kind::Directory {
-            object: _,
-            low: _,
-            high: _,
-        } => DIRECTORY_KIND,
-        Kind::Memory { low: _, high: _ } => MEMORY_KIND,
+        Kind::Directory { .. } => DIRECTORY_KIND,
+        Kind::Memory { .. } => MEMORY_KIND,
         Kind::Process(_) => PROCESS_KIND,
         Kind::Endpoint(_) => ENDPOINT_KIND,
-        Kind::Function { low: _, high: _ } => FUNCTION_KIND,
+        Kind::Function { .. } => FUNCTION_KIND,
     }
 }
 
@@ -32,16 +28,11 @@ pub fn object_of(k: Kind) -> Slot
     ensures { result ≡ object_of k }
 {
     match k {
-        Kind::Table(o) => o,
-        Kind::Directory {
-            object,
-            low: _,
-            high: _,
-        } => object,
-        Kind::Memory { low: _, high: _ } => Slot(0),
-        Kind::Process(o) => o,
-        Kind::Endpoint(o) => o,
-        Kind::Function { low: _, high: _ } => Slot(0),
+        Kind::Table(object)
+        | Kind::Directory { object, .. }
+        | Kind::Process(object)
+        | Kind::Endpoint(object) => object,
+        Kind::Memory { .. } | Kind::Function { .. } => Slot(0),
     }
 }
 
@@ -49,16 +40,9 @@ pub fn low_of(k: Kind) -> u32
     ensures { result ≡ low_of k }
 {
     match k {
-        Kind::Table(_) => 0,
-        Kind::Directory {
-            object: _,
-            low,
-            high: _,
-        } => low,
-        Kind::Memory { low, high: _ } => low.0,
-        Kind::Process(_) => 0,
-        Kind::Endpoint(_) => 0,
-        Kind::Function { low, high: _ } => low,
+        Kind::Directory { low, .. } | Kind::Function { low, .. } => low,
+        Kind::Memory { low, .. } => low.0,
+        Kind::Table(_) | Kind::Process(_) | Kind::Endpoint(_) => 0,
     }
 }
 
@@ -66,16 +50,9 @@ pub fn high_of(k: Kind) -> u32
     ensures { result ≡ high_of k }
 {
     match k {
-        Kind::Table(_) => 0,
-        Kind::Directory {
-            object: _,
-            low: _,
-            high,
-        } => high,
-        Kind::Memory { low: _, high } => high.0,
-        Kind::Process(_) => 0,
-        Kind::Endpoint(_) => 0,
-        Kind::Function { low: _, high } => high,
+        Kind::Directory { high, .. } | Kind::Function { high, .. } => high,
+        Kind::Memory { high, .. } => high.0,
+        Kind::Table(_) | Kind::Process(_) | Kind::Endpoint(_) => 0,
     }
 }
 
@@ -85,14 +62,22 @@ pub fn all_flags(k: Kind) -> u32
 {
     match k {
         Kind::Table(_) => TABLE_FLAGS,
-        Kind::Directory {
-            object: _,
-            low: _,
-            high: _,
-        } => DIRECTORY_FLAGS,
-        Kind::Memory { low: _, high: _ } => MEMORY_FLAGS,
+        Kind::Directory { .. } => DIRECTORY_FLAGS,
+        Kind::Memory { .. } => MEMORY_FLAGS,
         Kind::Process(_) => PROCESS_FLAGS,
         Kind::Endpoint(_) => ENDPOINT_FLAGS,
-        Kind::Function { low: _, high: _ } => FUNCTION_FLAGS,
+        Kind::Function { .. } => FUNCTION_FLAGS,
+    }
+}
+
+// "Creation makes the one root of an object, with every flag of its kind"
+pub fn root_right(kind: Kind) -> Capability
+    ensures { result ≡ root_right kind }
+{
+    Capability {
+        kind,
+        flags: all_flags(kind),
+        frost: Frost::Thawed,
+        origin: None,
     }
 }

@@ -2,7 +2,6 @@
 #![tactic(auto)]
 
 pub mod actions;
-pub mod answers;
 pub mod calls;
 pub mod capabilities;
 pub mod fields;
@@ -11,5 +10,6 @@ pub mod grants;
 pub mod kinds;
 pub mod layout;
 pub mod numbers;
+pub mod orders;
 pub mod refusals;
 pub mod sizes;

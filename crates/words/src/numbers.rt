@@ -2,7 +2,7 @@
 // "capability numbers, kernel addresses and counts stay apart".
 
 // A slot of kernel memory, 0..255. An object is named by its first slot.
-#[derive(Clone, Copy)]
+#[derive(Clone, Copy, PartialEq, Eq)]
 pub struct Slot(pub u8);
 
 // The number by which a call names a capability, in one step or in two.

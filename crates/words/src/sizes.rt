@@ -1,5 +1,7 @@
 // The sizes, lengths and bounds that document 01 names, for the code: specs/Sizes.antt and WellFormed.antt have them for the rules. Offsets
 // and lengths are `usize`; where a size is worked out in a narrower number its name ends in that number's type.
+ghost use Rattle.std.specs.Prelude.{◌≡◌};
+ghost use Rattle.words.specs.Sizes.{slots_for};
 
 // "exactly 17,472 bytes: 16,384 of kernel memory, 1,024 of slot bookkeeping, 64 for the clock and spare"
 pub const STATE_LENGTH: usize = 17472;
@@ -47,13 +49,9 @@ pub const PLACE_COUNT_U32: u32 = PLACE_COUNT as u32;
 // "page directory of 2^k entries, k from 1 to 8: (32 + 8·2^k) bytes"
 pub const HEADER_SIZE: usize = 32;
 
-pub const HEADER_SIZE_U16: u16 = HEADER_SIZE as u16;
-
 pub const HEADER_SIZE_U32: u32 = HEADER_SIZE as u32;
 
 pub const POSITION_SIZE: usize = 8;
-
-pub const POSITION_SIZE_U16: u16 = POSITION_SIZE as u16;
 
 pub const POSITION_SIZE_U32: u32 = POSITION_SIZE as u32;
 
@@ -66,9 +64,14 @@ pub const LEAST_NUMBER_ORDER: u32 = 1;
 
 pub const MOST_NUMBER_ORDER: u32 = 8;
 
-pub const MOST_NUMBER_ORDER_U8: u8 = MOST_NUMBER_ORDER as u8;
-
 pub const MOST_ORDER_SUM: u32 = 32;
+
+// Bytes "rounded up to slots".
+pub fn slots_for(bytes: u32) -> u32
+    ensures { result ≡ slots_for bytes }
+{
+    bytes.div_ceil(SLOT_SIZE_U32)
+}
 
 // "frozen for fewer than 8 ticks"
 pub const QUIET_TICKS: u32 = 8;

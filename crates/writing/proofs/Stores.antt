@@ -1,8 +1,7 @@
 -- Stores of bytes and words, and a part lent on, as one part replaced.
-use Rattle.std.proofs.Common.{◌≡◌, ℕ, ◌+◌, ◌-◌, ◌*◌, ◌<◌, ◌≤◌, List, [], ◌∷◌, ◌++◌, length, get_or, take, drop, set, sym, refl, ap, ◌∙◌, append_assoc, append-nil, add-one, arith, drop_of_length-le, length-take-le, take_all, take-suc, drop-drop, take_at}
+use Rattle.std.proofs.Common.{◌≡◌, ℕ, ◌+◌, ◌-◌, ◌*◌, ◌<◌, ◌≤◌, List, [], ◌∷◌, ◌++◌, length, get_or, take, drop, sym, refl, ap, ◌∙◌, append_assoc, append-nil, add-one, arith, drop_of_length-le, length-take-le, length-drop, take_all, take-suc, drop-drop, take_at}
 use native.Mathlib.Nat.{add-sub_cancel_left}
-use native.Mathlib.Numerals.{add-two, add-three}
-use lib.Seq.{sets-eq, drop-append-add}
+use lib.Seq.{drop-append-add}
 use Rattle.state.specs.State.{splice}
 use Rattle.state.specs.Bytes.{le32, words_bytes}
 use Rattle.state.proofs.Pieces.{splice_lent}
@@ -14,10 +13,9 @@ lent l x v at k e h =
     ∙ ap (λ (y : List ℕ). take at l ++ (y ++ drop k (drop at l))) e
     ∙ splice_lent l v at k h
 
--- ---- four bytes
-pub four : (l : List ℕ) (at a b c d : ℕ) → at + 4 ≤ length l → set (set (set (set l at a) (at + 1) b) (at + 2) c) (at + 3) d ≡ splice at (a ∷ b ∷ c ∷ d ∷ []) l
-unfolding splice
-four l at a b c d h = rw (add-one at, add-two at, add-three at) (sets-eq (a ∷ b ∷ c ∷ d ∷ []) l at h ∙ append_assoc (take at l) (a ∷ b ∷ c ∷ d ∷ []) (drop (at + 4) l))
+-- and is as long as it was cut
+pub lent_length : (l : List ℕ) (at k : ℕ) → at + k ≤ length l → length (take (at + k - at) (drop at l)) ≡ k
+lent_length l at k h = omega (arith, length-take-le (at + k - at) (drop at l) (omega (arith, length-drop at l)))
 
 -- ---- words one after the other
 pub length_words : (ws : List ℕ) → length (words_bytes ws) ≡ 4 * length ws

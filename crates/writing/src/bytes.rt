@@ -3,27 +3,22 @@ ghost use Rattle.std.specs.Prelude.{◌≡◌, ◌+◌, ◌*◌, ◌≤◌, leng
 ghost use Rattle.state.specs.State.{splice};
 ghost use Rattle.state.specs.Bytes.{le32, words_bytes};
 
-use words::fields::BYTE;
 use words::layout::WORD_SIZE;
 
 pub(crate) fn put_word(s: &mut [u8], at: usize, v: u32)
     requires { at + 4 ≤ length s.old }
     ensures { s.new ≡ splice at (le32 v) s.old }
 {
-    s[at] = (v % BYTE) as u8;
-    s[at + 1] = (v / BYTE % BYTE) as u8;
-    s[at + 2] = (v / BYTE / BYTE % BYTE) as u8;
-    s[at + 3] = (v / BYTE / BYTE / BYTE % BYTE) as u8;
+    s[at..at + WORD_SIZE].copy_from_slice(&v.to_le_bytes());
 }
 
+// The words over the whole part. By an index, since `as_chunks_mut` says nothing of what the slice ends as.
 fn put_words(part: &mut [u8], ws: &[u32])
     requires { length part.old ≡ 4 * length ws.now }
     ensures { part.new ≡ words_bytes ws.now }
 {
-    let mut i: usize = 0;
-    while i < ws.len() {
-        put_word(part, i * WORD_SIZE, ws[i]);
-        i += 1;
+    for (i, w) in ws.iter().enumerate() {
+        put_word(part, i * WORD_SIZE, *w);
     }
 }
 
@@ -32,10 +27,8 @@ pub fn put_run(part: &mut [u8], n: usize, v: u32)
     requires { length part.old ≡ 4 * n }
     ensures { part.new ≡ words_bytes (replicate n v) }
 {
-    let mut i: usize = 0;
-    while i < n {
+    for i in 0..n {
         put_word(part, i * WORD_SIZE, v);
-        i += 1;
     }
 }
 

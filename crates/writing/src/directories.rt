@@ -36,11 +36,6 @@ pub fn store_position(s: &mut [u8], d: Slot, i: u32, x: Position)
     requires { (slot_size * d.0 + header_size + position_size * i + position_size ≤ length s.old) × (position_flags x < 256) }
     ensures { s.new ≡ splice (slot_size * d.0 + header_size + position_size * i) (position_bytes x) s.old }
 {
-    let o = d.0 as usize;
-    let ws = position_words(x);
-    store_words(
-        s,
-        SLOT_SIZE * o + HEADER_SIZE + POSITION_SIZE * (i as usize),
-        &ws[..],
-    );
+    let at = SLOT_SIZE * (d.0 as usize) + HEADER_SIZE + POSITION_SIZE * (i as usize);
+    store_words(s, at, &position_words(x)[..]);
 }

@@ -12,6 +12,5 @@ pub fn store_count(s: &mut [u8], e: Slot, c: Count)
     requires { slot_size * e.0 + 4 ≤ length s.old }
     ensures { s.new ≡ splice (slot_size * e.0) (le32 c.0) s.old }
 {
-    let o = e.0 as usize;
-    put_word(s, SLOT_SIZE * o, c.0);
+    put_word(s, SLOT_SIZE * (e.0 as usize), c.0);
 }

@@ -27,9 +27,8 @@ pub fn store_notes(s: &mut [u8], k: Slot, n: u32, tag: u8, argument: u8)
     ensures { s.new ≡ splice (memory_length + 4 * k.0) (note_of tag argument ++ each note_bytes (replicate (n - 1) (body k))) s.old }
 {
     let at = NOTES + NOTE_SIZE * (k.0 as usize);
-    let m = n as usize;
-    let e = at + NOTE_SIZE * m;
-    fill_notes(&mut s[at..e], k, m, tag, argument);
+    let e = at + NOTE_SIZE * (n as usize);
+    fill_notes(&mut s[at..e], k, n as usize, tag, argument);
 }
 
 pub fn clear_notes(s: &mut [u8], k: Slot, n: u32)
@@ -37,7 +36,6 @@ pub fn clear_notes(s: &mut [u8], k: Slot, n: u32)
     ensures { s.new ≡ splice (memory_length + 4 * k.0) (replicate (4 * n) 0) s.old }
 {
     let at = NOTES + NOTE_SIZE * (k.0 as usize);
-    let m = n as usize;
-    let e = at + NOTE_SIZE * m;
-    put_run(&mut s[at..e], m, 0);
+    let e = at + NOTE_SIZE * (n as usize);
+    s[at..e].fill(0);
 }

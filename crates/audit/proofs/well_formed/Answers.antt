@@ -1,10 +1,13 @@
 -- `audit::well_formed` meets its contract: the parts in their order are the rule, and each has shown what the next ones ask for.
+use mathlib.Core.Bool.{false≢true}
 use mathlib.Core.Path.{sym, ◌∙◌}
 use borrow.Author.Tests.{eq-eqb, ne_eqb}
 use Rattle.words.proofs.Tests.{and_no, and_yes}
 use Rattle.audit.proofs.Order.{in_order}
-use Rattle.audit.proofs.Ready.{chains_ready, roots_ready}
+use Rattle.audit.proofs.Ready.{chains_ready, listed_heads, roots_ready}
 use Rattle.audit.proofs.well_formed.Goals as goal
+use Rattle.audit.proofs.well_formed.Goals.{then-not-laid_out-via-then-not-laid_out, then-not-laid_out-via-else-not-laid_out+then-not-canonical}
+use Rattle.audit.proofs.well_formed.Goals.{then-objects_ok, else-objects_ok, then-rights_ok, else-rights_ok}
 
 pub returns-then-s-ne-STATE_LENGTH : goal.returns-then-s-ne-STATE_LENGTH
 returns-then-s-ne-STATE_LENGTH c = sym (in_order c.args.s.now c.shared_slice_known-1.given ∙ and_no _ _ (ne_eqb _ _ c.if-s-ne-STATE_LENGTH.true))
@@ -12,85 +15,78 @@ returns-then-s-ne-STATE_LENGTH c = sym (in_order c.args.s.now c.shared_slice_kno
 pub laid_out-requires : goal.laid_out-requires
 laid_out-requires c = (c.if-s-ne-STATE_LENGTH.false, c.used-n.ensures.vacant)
 
+pub canonical-requires : goal.canonical-requires
+canonical-requires c = (c.if-s-ne-STATE_LENGTH.false, sym c.laid_out.ensures ∙ c.if-not-laid_out.false, c.used-n.ensures.vacant)
+
 pub returns-then-not-laid_out : goal.returns-then-not-laid_out
 returns-then-not-laid_out c =
-    let size = c.if-s-ne-STATE_LENGTH.false in
-    sym (in_order c.args.s.now c.shared_slice_known-1.given ∙ and_yes _ _ (eq-eqb _ _ size)
-    ∙ and_no _ _ (sym c.laid_out.ensures ∙ c.if-not-laid_out.true))
-
-pub canonical-requires : goal.canonical-requires
-canonical-requires c =
-    let size = c.if-s-ne-STATE_LENGTH.false in
-    let laid = sym c.laid_out.ensures ∙ c.if-not-laid_out.false in
-    (size, laid, c.used-n.ensures.vacant)
-
-pub returns-then-not-canonical : goal.returns-then-not-canonical
-returns-then-not-canonical c =
-    let size = c.if-s-ne-STATE_LENGTH.false in
-    let laid = sym c.laid_out.ensures ∙ c.if-not-laid_out.false in
-    sym (in_order c.args.s.now c.shared_slice_known-1.given ∙ and_yes _ _ (eq-eqb _ _ size) ∙ and_yes _ _ laid
-    ∙ and_no _ _ (sym c.canonical.ensures ∙ c.if-not-canonical.true))
+    let order = in_order c.args.s.now c.shared_slice_known-1.given ∙ and_yes _ _ (eq-eqb _ _ c.if-s-ne-STATE_LENGTH.false) in
+    elim c.then-not-laid_out.branch [
+      | then-not-laid_out-via-then-not-laid_out w ↦ sym (order ∙ and_no _ _ (sym c.laid_out.ensures ∙ w.if-not-laid_out.true))
+      | then-not-laid_out-via-else-not-laid_out+then-not-canonical w ↦
+          sym (order ∙ and_yes _ _ (sym c.laid_out.ensures ∙ w.if-not-laid_out.false) ∙ and_no _ _ (sym w.canonical.ensures ∙ w.if-not-canonical.true))
+    ]
 
 pub objects_ok-requires : goal.objects_ok-requires
 objects_ok-requires c =
-    let size = c.if-s-ne-STATE_LENGTH.false in
     let laid = sym c.laid_out.ensures ∙ c.if-not-laid_out.false in
-    (size, laid, c.list_heads-m.ensures.heads)
-
-pub returns-then-not-objects_ok : goal.returns-then-not-objects_ok
-returns-then-not-objects_ok c =
-    let size = c.if-s-ne-STATE_LENGTH.false in
-    let laid = sym c.laid_out.ensures ∙ c.if-not-laid_out.false in
-    let clean = sym c.canonical.ensures ∙ c.if-not-canonical.false in
-    sym (in_order c.args.s.now c.shared_slice_known-1.given ∙ and_yes _ _ (eq-eqb _ _ size) ∙ and_yes _ _ laid ∙ and_yes _ _ clean
-    ∙ and_no _ _ (sym c.objects_ok.ensures ∙ c.if-not-objects_ok.true))
+    (c.if-s-ne-STATE_LENGTH.false, laid, listed_heads _ _ _ _ c.list_heads-m.ensures)
 
 pub rights_ok-requires : goal.rights_ok-requires
 rights_ok-requires c =
-    let size = c.if-s-ne-STATE_LENGTH.false in
     let laid = sym c.laid_out.ensures ∙ c.if-not-laid_out.false in
-    (size, laid, c.list_heads-m.ensures.heads)
-
-pub returns-then-not-rights_ok : goal.returns-then-not-rights_ok
-returns-then-not-rights_ok c =
-    let size = c.if-s-ne-STATE_LENGTH.false in
-    let laid = sym c.laid_out.ensures ∙ c.if-not-laid_out.false in
-    let clean = sym c.canonical.ensures ∙ c.if-not-canonical.false in
-    let objects = sym c.objects_ok.ensures ∙ c.if-not-objects_ok.false in
-    sym (in_order c.args.s.now c.shared_slice_known-1.given ∙ and_yes _ _ (eq-eqb _ _ size) ∙ and_yes _ _ laid ∙ and_yes _ _ clean ∙ and_yes _ _ objects
-    ∙ and_no _ _ (sym c.rights_ok.ensures ∙ c.if-not-rights_ok.true))
+    (c.if-s-ne-STATE_LENGTH.false, laid, listed_heads _ _ _ _ c.list_heads-m.ensures)
 
 pub roots_ok-requires : goal.roots_ok-requires
 roots_ok-requires c =
-    let size = c.if-s-ne-STATE_LENGTH.false in
     let laid = sym c.laid_out.ensures ∙ c.if-not-laid_out.false in
-    let rights = sym c.rights_ok.ensures ∙ c.if-not-rights_ok.false in
-    (roots_ready c.args.s.now size laid rights, c.list_heads-m.ensures.heads)
-
-pub returns-then-not-roots_ok : goal.returns-then-not-roots_ok
-returns-then-not-roots_ok c =
-    let size = c.if-s-ne-STATE_LENGTH.false in
-    let laid = sym c.laid_out.ensures ∙ c.if-not-laid_out.false in
-    let clean = sym c.canonical.ensures ∙ c.if-not-canonical.false in
-    let objects = sym c.objects_ok.ensures ∙ c.if-not-objects_ok.false in
-    let rights = sym c.rights_ok.ensures ∙ c.if-not-rights_ok.false in
-    sym (in_order c.args.s.now c.shared_slice_known-1.given ∙ and_yes _ _ (eq-eqb _ _ size) ∙ and_yes _ _ laid ∙ and_yes _ _ clean ∙ and_yes _ _ objects ∙ and_yes _ _ rights
-    ∙ and_no _ _ (sym c.roots_ok.ensures ∙ c.if-not-roots_ok.true))
+    let yes = c.if-rights_ok.true in
+    elim c.if-objects_ok.branch [
+      | then-objects_ok w ↦ (roots_ready c.args.s.now c.if-s-ne-STATE_LENGTH.false laid (sym w.rights_ok.ensures ∙ sym w.value-is ∙ yes), listed_heads _ _ _ _ c.list_heads-m.ensures)
+      | else-objects_ok w ↦ absurd (false≢true (sym w.if-objects_ok.false ∙ sym w.value-is ∙ yes))
+    ]
 
 pub chains_ok-requires : goal.chains_ok-requires
 chains_ok-requires c =
-    let size = c.if-s-ne-STATE_LENGTH.false in
     let laid = sym c.laid_out.ensures ∙ c.if-not-laid_out.false in
-    let rights = sym c.rights_ok.ensures ∙ c.if-not-rights_ok.false in
-    (chains_ready c.args.s.now size laid rights, c.list_heads-m.ensures.heads)
+    elim c.if-rights_ok.branch [
+      | then-rights_ok v ↦ elim c.if-objects_ok.branch [
+        | then-objects_ok w ↦ (chains_ready c.args.s.now c.if-s-ne-STATE_LENGTH.false laid (sym w.rights_ok.ensures ∙ sym w.value-is ∙ v.if-rights_ok.true), listed_heads _ _ _ _ c.list_heads-m.ensures)
+        | else-objects_ok w ↦ absurd (false≢true (sym w.if-objects_ok.false ∙ sym w.value-is ∙ v.if-rights_ok.true))
+      ]
+      | else-rights_ok v ↦ absurd (false≢true (sym v.if-rights_ok.false ∙ sym v.value-is ∙ c.if-roots_ok.true))
+    ]
 
-pub returns : goal.returns
-returns c =
-    let size = c.if-s-ne-STATE_LENGTH.false in
+pub returns-then-roots_ok : goal.returns-then-roots_ok
+returns-then-roots_ok c =
     let laid = sym c.laid_out.ensures ∙ c.if-not-laid_out.false in
     let clean = sym c.canonical.ensures ∙ c.if-not-canonical.false in
-    let objects = sym c.objects_ok.ensures ∙ c.if-not-objects_ok.false in
-    let rights = sym c.rights_ok.ensures ∙ c.if-not-rights_ok.false in
-    let roots = sym c.roots_ok.ensures ∙ c.if-not-roots_ok.false in
-    c.chains_ok.ensures
-    ∙ sym (in_order c.args.s.now c.shared_slice_known-1.given ∙ and_yes _ _ (eq-eqb _ _ size) ∙ and_yes _ _ laid ∙ and_yes _ _ clean ∙ and_yes _ _ objects ∙ and_yes _ _ rights ∙ and_yes _ _ roots)
+    let order = in_order c.args.s.now c.shared_slice_known-1.given ∙ and_yes _ _ (eq-eqb _ _ c.if-s-ne-STATE_LENGTH.false) ∙ and_yes _ _ laid ∙ and_yes _ _ clean in
+    elim c.if-rights_ok.branch [
+      | then-rights_ok v ↦ elim c.if-objects_ok.branch [
+        | then-objects_ok w ↦
+            let objects = sym c.objects_ok.ensures ∙ w.if-objects_ok.true in
+            let rights = sym w.rights_ok.ensures ∙ sym w.value-is ∙ v.if-rights_ok.true in
+            let roots = sym v.roots_ok.ensures ∙ sym v.value-is ∙ c.if-roots_ok.true in
+            c.chains_ok.ensures ∙ sym (order ∙ and_yes _ _ objects ∙ and_yes _ _ rights ∙ and_yes _ _ roots)
+        | else-objects_ok w ↦ absurd (false≢true (sym w.if-objects_ok.false ∙ sym w.value-is ∙ v.if-rights_ok.true))
+      ]
+      | else-rights_ok v ↦ absurd (false≢true (sym v.if-rights_ok.false ∙ sym v.value-is ∙ c.if-roots_ok.true))
+    ]
+
+pub returns-else-roots_ok : goal.returns-else-roots_ok
+returns-else-roots_ok c =
+    let laid = sym c.laid_out.ensures ∙ c.if-not-laid_out.false in
+    let clean = sym c.canonical.ensures ∙ c.if-not-canonical.false in
+    let order = in_order c.args.s.now c.shared_slice_known-1.given ∙ and_yes _ _ (eq-eqb _ _ c.if-s-ne-STATE_LENGTH.false) ∙ and_yes _ _ laid ∙ and_yes _ _ clean in
+    c.if-roots_ok.false ∙ sym (order ∙ elim c.if-objects_ok.branch [
+      | then-objects_ok w ↦
+          let objects = sym c.objects_ok.ensures ∙ w.if-objects_ok.true in
+          and_yes _ _ objects ∙ elim c.if-rights_ok.branch [
+            | then-rights_ok v ↦
+                let rights = sym w.rights_ok.ensures ∙ sym w.value-is ∙ v.if-rights_ok.true in
+                and_yes _ _ rights ∙ and_no _ _ (sym v.roots_ok.ensures ∙ sym v.value-is ∙ c.if-roots_ok.false)
+            | else-rights_ok v ↦ and_no _ _ (sym w.rights_ok.ensures ∙ sym w.value-is ∙ v.if-rights_ok.false)
+          ]
+      | else-objects_ok w ↦ and_no _ _ (sym c.objects_ok.ensures ∙ w.if-objects_ok.false)
+    ])

@@ -9,10 +9,10 @@ use Rattle.state.specs.Read.{read}
 use Rattle.audit_roots.proofs.Counting.{among_same, counts_same, none_yet}
 use Rattle.audit_roots.proofs.count_slot.Goals as goal
 
-pub returns-then-n-eq0 : goal.returns-then-n-eq0
-returns-then-n-eq0 c =
+pub returns-else-n-ne0 : goal.returns-else-n-ne0
+returns-else-n-ne0 c =
     let a = c.args in
-    let none = sym c.entries_in-n.ensures ∙ c.if-n-eq0.true in
+    let none = sym c.entries_in-n.ensures ∙ c.if-n-ne0.false in
     rw none (none_yet _ _ c.requires.2.long)
 
 pub table_slots-requires : goal.table_slots-requires
@@ -28,8 +28,8 @@ count_table-requires c =
       pre.2,
     )
 
-pub returns : goal.returns
-returns c =
+pub returns-then-n-ne0 : goal.returns-then-n-ne0
+returns-then-n-ne0 c =
     let a = c.args in
     let pre = c.requires in
     let n = c.entries_in-n.ensures in

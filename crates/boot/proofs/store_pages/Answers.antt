@@ -9,14 +9,14 @@ use Rattle.boot.proofs.store_pages.Goals as goal
 
 pub loop-i-init : goal.loop-i-init
 unfolding with_pages
-loop-i-init c = (refl, search rules, search rules)
+loop-i-init c = (refl, search rules)
 
 pub store_position-requires : goal.store_position-requires
 store_position-requires c = rw c.page_of.ensures (search rules)
 
 pub loop-i-preserved : goal.loop-i-preserved
 unfolding with_pages
-loop-i-preserved c = (rw (c.store_position.ensures, c.page_of.ensures, c.loop-i.invariant.0, add-one c.loop-i.i) refl, search rules, search rules)
+loop-i-preserved c = (rw (c.store_position.ensures, c.page_of.ensures, c.loop-i.invariant.0, add-one c.loop-i.i) refl, search rules)
 
 pub returns : goal.returns
 returns c = let e : c.loop-i.i ≡ 8 = omega arith in c.loop-i.invariant.0 ∙ ap (λ (n : ℕ). with_pages n c.args.s.now) e

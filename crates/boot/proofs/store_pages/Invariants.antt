@@ -1,13 +1,9 @@
 -- `boot::store_pages` meets its contract. The loop's invariant: the first i pages are stored.
 use mathlib.Core.Path.{◌≡◌}
-use Prim.Native.Nat.{◌≤◌, ◌-◌}
 use lib.ListN.{length}
 use Rattle.words.specs.Sizes.{state_length}
 use Rattle.boot.specs.Stages.{with_pages}
 use Rattle.boot.proofs.store_pages.Given as goal
 
 abbrev pub invariant-loop-i : goal.invariant-loop-i
-invariant-loop-i l = (l.s ≡ with_pages l.i l.initial.s) × (l.i ≤ 8) × (length l.s ≡ state_length)
-
-abbrev pub decreases-loop-i : goal.decreases-loop-i
-decreases-loop-i l = 8 - l.i
+invariant-loop-i l = (l.s ≡ with_pages l.i l.initial.s) × (length l.s ≡ state_length)

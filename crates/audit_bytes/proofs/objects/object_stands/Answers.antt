@@ -91,7 +91,6 @@ returns-in-5 c =
 pub returns-in_default : goal.returns-in_default
 returns-in_default c =
     let e = c.tag_byte.ensures in
-    let d = c.in_default.in_default-own.rest in
     c.zeros_in.ensures
-    ∙ free_stands c.args.s.now (λ j. (c.shared_slice_known-1.given j).fits) c.requires.0 c.args.k (search rules)
-    (λ z. d.0.0.0.0.1 (e ∙ z)) (λ z. d.0.0.0.1 (e ∙ z)) (λ z. d.0.0.1 (e ∙ z)) (λ z. d.0.1 (e ∙ z)) (λ z. d.1 (e ∙ z))
+    ∙ free_stands c.args.s.now (λ j. (c.type_inv.s j).fits) c.requires.0 c.args.k (search rules)
+    (λ z. omega arith) (λ z. omega arith) (λ z. omega arith) (λ z. omega arith) (λ z. omega arith)

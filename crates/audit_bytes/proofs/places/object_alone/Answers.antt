@@ -1,17 +1,14 @@
--- `audit_bytes::places::object_alone` meets its contract: each return rewrites with the tests that led there.
-use borrow.Author.Tests.{eq-eqb, ne_eqb}
+-- `audit_bytes::places::object_alone` meets its contract: its tests are those of the definition.
+use Rattle.std.proofs.Common.{arith}
+use Rattle.std.proofs.lemmas.Grind.{common_steps}
 use Rattle.audit_bytes.specs.Clean.{object_alone}
 use Rattle.words.specs.Tests.{◌&◌}
 use Rattle.audit_bytes.proofs.places.object_alone.Goals as goal
 
-pub returns-then-low-ne0 : goal.returns-then-low-ne0
+pub returns-then-high-eq0 : goal.returns-then-high-eq0
 unfolding object_alone ◌&◌
-returns-then-low-ne0 c = rw (ne_eqb _ _ c.if-low-ne0.true)
+returns-then-high-eq0 c = grind (arith, common_steps)
 
-pub returns-then-high-ne0 : goal.returns-then-high-ne0
+pub returns-else-high-eq0 : goal.returns-else-high-eq0
 unfolding object_alone ◌&◌
-returns-then-high-ne0 c = rw (eq-eqb _ _ c.if-low-ne0.false, ne_eqb _ _ c.if-high-ne0.true)
-
-pub returns : goal.returns
-unfolding object_alone ◌&◌
-returns c = rw (eq-eqb _ _ c.if-low-ne0.false, eq-eqb _ _ c.if-high-ne0.false)
+returns-else-high-eq0 c = grind (arith, common_steps)

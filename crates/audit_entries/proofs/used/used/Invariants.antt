@@ -2,8 +2,5 @@
 use Rattle.audit_entries.specs.Vacant.{Vacant}
 use Rattle.audit_entries.proofs.used.used.Given as goal
 
-abbrev pub invariant-loop-n : goal.invariant-loop-n
-invariant-loop-n l = Vacant l.s l.n
-
-abbrev pub decreases-loop-n : goal.decreases-loop-n
-decreases-loop-n l = l.n
+abbrev pub invariant-loop-k : goal.invariant-loop-k
+invariant-loop-k l = Vacant l.s l.k

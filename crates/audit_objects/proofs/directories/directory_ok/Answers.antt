@@ -5,6 +5,7 @@ use lib.ListN.{length-take, length-drop}
 use borrow.Author.Rules.{rules}
 use Rattle.words.proofs.Tests.{and_no}
 use Rattle.state.specs.Read.{read}
+use Rattle.state.proofs.Few.{few_positions}
 use Rattle.rules.specs.WellFormed.{geometric}
 use Rattle.audit_objects.proofs.Checks.{apart_laid}
 use Rattle.audit_objects.proofs.Asked.{ok_directory, small_size, directory_room, ok_positions}
@@ -16,20 +17,8 @@ returns-then-not-geometry_ok c =
     sym (ok_directory (read c.args.s.now) c.args.k c.requires.2
     ∙ and_no _ _ (sym (ap geometric c.shape_at-g.ensures) ∙ sym c.geometry_ok.ensures ∙ c.if-not-geometry_ok.true))
 
-pub overflow_mul-n : goal.overflow_mul-n
-overflow_mul-n c =
-    let room = directory_room (read c.args.s.now) c.args.k (apart_laid _ c.requires.1) (search rules) c.requires.2 in
-    omega (arith, c.positions_in-n.ensures)
-
-pub overflow_add-n : goal.overflow_add-n
-overflow_add-n c =
-    let room = directory_room (read c.args.s.now) c.args.k (apart_laid _ c.requires.1) (search rules) c.requires.2 in
-    omega (arith, c.positions_in-n.ensures)
-
-pub overflow_add-n-2 : goal.overflow_add-n-2
-overflow_add-n-2 c =
-    let room = directory_room (read c.args.s.now) c.args.k (apart_laid _ c.requires.1) (search rules) c.requires.2 in
-    omega (arith, c.positions_in-n.ensures)
+pub directory_slots-requires : goal.directory_slots-requires
+directory_slots-requires c = omega (arith, c.positions_in-n.ensures, few_positions c.args.s.now c.args.k (search rules))
 
 pub overflow_cast-n : goal.overflow_cast-n
 overflow_cast-n c =
@@ -42,7 +31,7 @@ positions_ok-requires c =
     let passed = sym (ap geometric shape) ∙ sym c.geometry_ok.ensures ∙ c.if-not-geometry_ok.false in
     let size = small_size _ passed in
     let room = directory_room (read c.args.s.now) c.args.k (apart_laid _ c.requires.1) (search rules) c.requires.2 in (
-      rw c.slots_from-part.ensures (simp (length-take, length-drop) (omega (arith, c.positions_in-n.ensures))),
+      rw c.directory_slots.ensures (simp (length-take, length-drop) (omega (arith, c.positions_in-n.ensures))),
       omega (arith, ap (λ (g : Geometry). g.size) shape),
     )
 
@@ -50,7 +39,7 @@ pub returns : goal.returns
 returns c =
     let shape = c.shape_at-g.ensures in
     let passed = sym (ap geometric shape) ∙ sym c.geometry_ok.ensures ∙ c.if-not-geometry_ok.false in
-    let small = c.shared_slice_known-1.given in
+    let small = c.type_inv.s in
     c.positions_ok.ensures
-    ∙ rw (c.slots_from-part.ensures, shape, c.positions_in-n.ensures)
+    ∙ rw (c.directory_slots.ensures, shape, c.positions_in-n.ensures)
     (sym (ok_positions c.args.s.now c.args.k (search rules) (λ i. omega (arith, small i)) c.requires.2 passed))

@@ -7,45 +7,29 @@ use Rattle.state.specs.Read.{position_of, position_from}
 use Rattle.rules.specs.WellFormed.{framed, position_ok}
 use Rattle.audit_objects.proofs.directories.position_ok.Goals as goal
 
-pub returns-then-not-is_multiple : goal.returns-then-not-is_multiple
+pub returns-then-is_multiple : goal.returns-then-is_multiple
 unfolding position_of position_from position_ok framed ◌&◌
-returns-then-not-is_multiple c =
+returns-then-is_multiple c =
     rw (
-      c.if-tag-eq-PAGE.true,
+      c.in-1.is,
       ← c.word_in.ensures,
       ← c.is_multiple.ensures,
-      c.if-not-is_multiple.true,
-    )
-
-pub returns-then-tag-eq-PAGE : goal.returns-then-tag-eq-PAGE
-unfolding position_of position_from position_ok framed ◌&◌
-returns-then-tag-eq-PAGE c =
-    rw (
-      c.if-tag-eq-PAGE.true,
-      ← c.word_in.ensures,
-      ← c.is_multiple.ensures,
-      c.if-not-is_multiple.false,
+      c.if-is_multiple.true,
       lt-ltb c.word_in.result (2 ^ 32) (search rules),
     )
 
-pub returns-then-not-child_ok : goal.returns-then-not-child_ok
+pub returns-else-is_multiple : goal.returns-else-is_multiple
 unfolding position_of position_from position_ok framed ◌&◌
-returns-then-not-child_ok c =
-    rw (
-      c.if-tag-eq-CHILD.true,
-      ← c.child_ok.ensures,
-      c.if-not-child_ok.true,
-    )
+returns-else-is_multiple c = rw (c.in-1.is, ← c.word_in.ensures, ← c.is_multiple.ensures, c.if-is_multiple.false)
 
-pub returns-then-tag-eq-CHILD : goal.returns-then-tag-eq-CHILD
+pub returns-then-child_ok : goal.returns-then-child_ok
 unfolding position_of position_from position_ok framed ◌&◌
-returns-then-tag-eq-CHILD c =
-    rw (
-      c.if-tag-eq-CHILD.true,
-      ← c.child_ok.ensures,
-      c.if-not-child_ok.false,
-    )
+returns-then-child_ok c = rw (c.in-2.is, ← c.child_ok.ensures, c.if-child_ok.true)
 
-pub returns : goal.returns
+pub returns-else-child_ok : goal.returns-else-child_ok
 unfolding position_of position_from position_ok framed ◌&◌
-returns c = rw (ne_eqb _ _ c.if-tag-eq-PAGE.false, ne_eqb _ _ c.if-tag-eq-CHILD.false)
+returns-else-child_ok c = rw (c.in-2.is, ← c.child_ok.ensures, c.if-child_ok.false)
+
+pub returns-in_default : goal.returns-in_default
+unfolding position_of position_from position_ok framed ◌&◌
+returns-in_default c = let r = c.in_default.in_default-own.rest in rw (ne_eqb _ _ r.0.1, ne_eqb _ _ r.1)

@@ -1,28 +1,20 @@
--- `audit_objects::directories::positions_ok` meets its contract: the positions passed so far are as they must be.
-use mathlib.Core.Path.{◌≡◌, sym, ◌∙◌}
+-- `audit_objects::directories::positions_ok` meets its contract: each position is asked in turn.
+use mathlib.Core.Path.{refl, ◌∙◌}
 use native.Mathlib.Omega.{arith}
-use native.Mathlib.Numerals.{add-one}
+use Prim.Native.Nat.{◌*◌, ◌+◌}
 use borrow.Author.Rules.{rules}
-use Rattle.words.proofs.Tests.{all_zero, all_more, all_not}
+use borrow.Author.Tests.{tests}
+use Rattle.std.proofs.lemmas.Iterator.{YieldsList-from_range}
+use Rattle.std.proofs.lemmas.Iterator.Search.{all_from_yields_List}
+use Rattle.words.specs.Sizes.{header_size, position_size}
+use Rattle.state.specs.Read.{position_of, read}
+use Rattle.rules.specs.WellFormed.{position_ok}
+use Rattle.audit_objects.proofs.Listed.{all_numbers}
 use Rattle.audit_objects.proofs.directories.positions_ok.Goals as goal
-
-pub loop-i-init : goal.loop-i-init
-loop-i-init c = (search rules, all_zero _)
-
-pub returns-then-not-position_ok : goal.returns-then-not-position_ok
-returns-then-not-position_ok c =
-    let l = c.loop-i in
-    let one = sym c.position_ok.ensures ∙ c.if-not-position_ok.true in
-    sym (all_not _ _ l.i c.loop-i-test.true one)
-
-pub loop-i-preserved : goal.loop-i-preserved
-loop-i-preserved c =
-    let l = c.loop-i in
-    let one = sym c.position_ok.ensures ∙ c.if-not-position_ok.false in
-    (search rules, rw (add-one l.i) (all_more l.i _ l.invariant.1 one))
 
 pub returns : goal.returns
 returns c =
-    let l = c.loop-i in
-    let e : l.i ≡ c.args.n = omega arith in
-    sym (rw e at l.invariant.1)
+    let a = c.args in
+    all_from_yields_List (λ i. position_ok (read a.s.now) a.g (position_of a.p.now (header_size + position_size * i))) _ _ _ c.all.ensures.ran
+    (YieldsList-from_range 0 a.n a.n refl (omega arith)) (λ x b q k. search (rules, tests))
+    ∙ all_numbers _ a.n

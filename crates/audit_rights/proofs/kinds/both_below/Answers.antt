@@ -1,12 +1,13 @@
 -- `audit_rights::kinds::both_below` meets its contract: one test after the other.
-use borrow.Author.Tests.{lt-ltb, le-ltb}
+use Rattle.std.proofs.lemmas.Grind.{common_steps}
+use native.Mathlib.Omega.{arith}
 use Rattle.words.specs.Tests.{◌&◌}
 use Rattle.audit_rights.proofs.kinds.both_below.Goals as goal
 
-pub returns-then-n-low : goal.returns-then-n-low
+pub returns-then-low-n : goal.returns-then-low-n
 unfolding ◌&◌
-returns-then-n-low c = rw (le-ltb _ _ c.if-n-low.true)
+returns-then-low-n c = grind (arith, common_steps)
 
-pub returns : goal.returns
+pub returns-else-low-n : goal.returns-else-low-n
 unfolding ◌&◌
-returns c = rw (lt-ltb _ _ c.if-n-low.false)
+returns-else-low-n c = grind (arith, common_steps)

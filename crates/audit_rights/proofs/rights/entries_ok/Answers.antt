@@ -1,28 +1,21 @@
--- `audit_rights::rights::entries_ok` meets its contract: the entries passed so far are as they must be.
-use mathlib.Core.Path.{◌≡◌, sym, ◌∙◌}
+-- `audit_rights::rights::entries_ok` meets its contract: each entry is asked in turn.
+use mathlib.Core.Path.{refl, ◌∙◌}
 use native.Mathlib.Omega.{arith}
-use native.Mathlib.Numerals.{add-one}
+use Prim.Native.Nat.{◌*◌}
 use borrow.Author.Rules.{rules}
-use Rattle.words.proofs.Tests.{all_zero, all_more, all_not}
+use borrow.Author.Tests.{tests}
+use Rattle.std.proofs.lemmas.Iterator.{YieldsList-from_range}
+use Rattle.std.proofs.lemmas.Iterator.Search.{all_from_yields_List}
+use Rattle.state.specs.Read.{place_of, read}
+use Rattle.rules.specs.WellFormed.{right}
+use Rattle.words.specs.Sizes.{entry_size}
+use Rattle.audit_objects.proofs.Listed.{all_numbers}
+use Rattle.audit_rights.specs.ButChain.{right_but_chain}
 use Rattle.audit_rights.proofs.rights.entries_ok.Goals as goal
-
-pub loop-e-init : goal.loop-e-init
-loop-e-init c = (search rules, all_zero _)
-
-pub returns-then-not-entry_ok : goal.returns-then-not-entry_ok
-returns-then-not-entry_ok c =
-    let l = c.loop-e in
-    let one = sym c.entry_ok.ensures ∙ c.if-not-entry_ok.true in
-    sym (all_not _ _ l.e c.loop-e-test.true one)
-
-pub loop-e-preserved : goal.loop-e-preserved
-loop-e-preserved c =
-    let l = c.loop-e in
-    let one = sym c.entry_ok.ensures ∙ c.if-not-entry_ok.false in
-    (search rules, rw (add-one l.e) (all_more l.e _ l.invariant.1 one))
 
 pub returns : goal.returns
 returns c =
-    let l = c.loop-e in
-    let e : l.e ≡ c.args.n = omega arith in
-    sym (rw e at l.invariant.1)
+    let a = c.args in
+    all_from_yields_List (λ e. right (right_but_chain (read a.s.now)) (place_of a.p.now (entry_size * e))) _ _ _ c.all.ensures.ran
+    (YieldsList-from_range 0 a.n a.n refl (omega arith)) (λ x b q k. search (rules, tests))
+    ∙ all_numbers _ a.n

@@ -10,11 +10,6 @@ returns-then-number-eq-BLANK c =
     let a = c.args in
     sym (entry_blank (read a.s.now) a.p.now a.at (λ m n. omega (arith, c.word_in-number.ensures)))
 
-pub returns-then-number-gt-FUNCTION_KIND : goal.returns-then-number-gt-FUNCTION_KIND
-returns-then-number-gt-FUNCTION_KIND c =
-    let a = c.args in
-    sym (entry_blank (read a.s.now) a.p.now a.at (λ m n. omega (arith, c.word_in-number.ensures)))
-
 pub returns : goal.returns
 returns c =
     let a = c.args in

@@ -9,9 +9,9 @@ pub raise-requires : goal.raise-requires
 raise-requires c =
     let a = c.args in
     let r = new_room a.s.now c.requires.well_formed a.first (slots_for (entry_size * a.entries)) c.requires.ready.site.fits in
-    record { notes_inside = r.0; slots_inside = r.1; some_slots = omega (arith, c.requires.ready.some); entry_inside = entry_room a.s.now c.requires.well_formed a.at c.requires.ready.site.entry }
+    rw c.slots_for.ensures record { notes_inside = r.0; slots_inside = r.1; some_slots = omega (arith, c.requires.ready.some); entry_inside = entry_room a.s.now c.requires.well_formed a.at c.requires.ready.site.entry }
 
 pub returns : goal.returns
 returns c =
     let a = c.args in
-    rw c.raise.ensures (table_made a.s.now c.requires.well_formed a.at a.first a.entries c.requires.ready)
+    rw (c.raise.ensures, c.slots_for.ensures) (table_made a.s.now c.requires.well_formed a.at a.first a.entries c.requires.ready)

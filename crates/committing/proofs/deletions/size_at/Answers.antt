@@ -8,18 +8,13 @@ use Rattle.state.specs.State.{obj_at}
 use Rattle.state.specs.Read.{read}
 use Rattle.committing.proofs.deletions.size_at.Goals as goal
 
-pub overflow_mul-result-in-3 : goal.overflow_mul-result-in-3
-overflow_mul-result-in-3 c =
+pub overflow_mul-positions_in : goal.overflow_mul-positions_in
+overflow_mul-positions_in c =
     let a = c.args in
     omega (arith, c.positions_in.ensures, few_positions a.s.now a.o (search rules))
 
-pub overflow_add-result-in-3 : goal.overflow_add-result-in-3
-overflow_add-result-in-3 c =
-    let a = c.args in
-    omega (arith, c.positions_in.ensures, few_positions a.s.now a.o (search rules))
-
-pub overflow_add-result-in-3-2 : goal.overflow_add-result-in-3-2
-overflow_add-result-in-3-2 c =
+pub overflow_add-positions_in : goal.overflow_add-positions_in
+overflow_add-positions_in c =
     let a = c.args in
     omega (arith, c.positions_in.ensures, few_positions a.s.now a.o (search rules))
 
@@ -31,12 +26,12 @@ returns-in-1 c =
 pub returns-in-2 : goal.returns-in-2
 returns-in-2 c =
     let a = c.args in
-    rw c.argument_byte.ensures (sym (table_there a.s.now a.o (search rules) (sym c.tag_at.ensures ∙ c.in-2.is)))
+    rw (c.slots_for.ensures, c.argument_byte.ensures) (sym (table_there a.s.now a.o (search rules) (sym c.tag_at.ensures ∙ c.in-2.is)))
 
 pub returns-in-3 : goal.returns-in-3
 returns-in-3 c =
     let a = c.args in
-    rw c.positions_in.ensures (sym (directory_size (obj_at (read a.s.now) a.o) (sym c.tag_at.ensures ∙ c.in-3.is)))
+    rw (c.slots_for-in-3.ensures, c.positions_in.ensures) (sym (directory_size (obj_at (read a.s.now) a.o) (sym c.tag_at.ensures ∙ c.in-3.is)))
 
 pub returns-in_default : goal.returns-in_default
 returns-in_default c =

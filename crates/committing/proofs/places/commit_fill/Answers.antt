@@ -1,7 +1,7 @@
 -- `committing::places::commit_fill` meets its contract: `place_law`.
 use mathlib.Core.Path.{◌∙◌}
 use Rattle.committing.proofs.Laws.{entry_room, place_law}
-use Rattle.committing.specs.Names.{Holds}
+use Rattle.committing.specs.Names.{Some}
 use Rattle.committing.proofs.places.commit_fill.Goals as goal
 
 pub store_place-requires : goal.store_place-requires
@@ -12,4 +12,4 @@ store_place-requires c =
 pub returns : goal.returns
 returns c =
     let a = c.args in
-    c.store_place.ensures ∙ place_law a.s.now c.requires.well_formed a.at (Holds a.right) c.requires.ready
+    c.store_place.ensures ∙ place_law a.s.now c.requires.well_formed a.at (Some a.right) c.requires.ready

@@ -1,39 +1,26 @@
 -- `hex_reading::cells::bytes_of` meets its contract: the bytes passed are those given, and behind them stands what was there.
-use mathlib.Core.List.{List}
-use mathlib.Core.Path.{refl, ap, sym, ◌∙◌}
-use Prim.Native.Nat.{ℕ}
-use native.Mathlib.Omega.{arith}
-use lib.ListN.{length-set, set}
+use Rattle.std.proofs.Common.{List, ℕ, ◌≡◌, ◌-◌, ◌∙◌, ap, sym, arith, None, get_or, set}
+use Rattle.std.proofs.Math.ListN.{get_or-map, length-set}
 use Rattle.intel_hex.specs.Reading.{given}
 use Rattle.intel_hex.proofs.CellLaws.{front_done, front_more, given_at, length_given}
+use Rattle.hex_reading.specs.Numbers.{number, numbers}
+use Rattle.hex_reading.proofs.Numbers.{given_number, length_numbers}
 use Rattle.hex_reading.proofs.cells.bytes_of.Goals as goal
 
-pub loop-i-init : goal.loop-i-init
-loop-i-init c = (omega arith, refl, refl)
-
-pub byte_of-requires : goal.byte_of-requires
-byte_of-requires c = c.requires.2 c.loop-i.i
-
-pub bounds-state-i : goal.bounds-state-i
-bounds-state-i c = omega (arith, c.requires.1)
-
-pub loop-i-preserved : goal.loop-i-preserved
-loop-i-preserved c =
-    let a = c.args in
-    let i = c.loop-i.i in
-    let b = c.byte_of in
-    let n = length_given a.cells.now in (
-      omega arith,
-      length-set c.loop-i.state i b.result ∙ c.loop-i.invariant.1,
-      ap (λ (l : List ℕ). set l i b.result) c.loop-i.invariant.2
-          ∙ front_more (given a.cells.now) a.state.now i b.result (omega (arith, c.requires.0)) (omega (arith, c.requires.1)) (b.ensures ∙ sym (given_at a.cells.now i)),
-    )
-
-pub shape_of-state : goal.shape_of-state
-shape_of-state c = omega arith
+pub loop-k-preserved : goal.loop-k-preserved
+loop-k-preserved c =
+    let cells = c.args.cells.now in
+    let k = c.loop-k.k in
+    let b = c.unwrap_or.result in
+    let e : b ≡ get_or (given (numbers cells)) k 0 =
+    c.unwrap_or.ensures ∙ given_number (get_or cells k None) ∙ ap (λ (n : ℕ). n - 1) (sym (get_or-map number cells k None)) ∙ sym (given_at (numbers cells) k) in record {
+      same_length = length-set c.loop-k.state k b ∙ c.loop-k.invariant.same_length;
+      given_so_far = ap (λ (l : List ℕ). set l k b) c.loop-k.invariant.given_so_far
+          ∙ front_more (given (numbers cells)) c.args.state.now k b (omega (arith, length_given (numbers cells), length_numbers cells, c.loop-k-test.true)) (omega (arith, c.requires, c.loop-k-test.true)) e;
+    }
 
 pub returns : goal.returns
 returns c =
-    let a = c.args in
-    let n = length_given a.cells.now in
-    c.loop-i.invariant.2 ∙ front_done (given a.cells.now) a.state.now c.loop-i.i (omega (arith, c.requires.0)) (omega (arith, c.requires.1))
+    let cells = c.args.cells.now in
+    c.loop-k.invariant.given_so_far
+    ∙ front_done (given (numbers cells)) c.args.state.now c.loop-k.k (omega (arith, length_given (numbers cells), length_numbers cells, c.loop-k-test.false)) (omega (arith, c.requires, c.loop-k-test.false))

@@ -1,35 +1,41 @@
 -- `hex_reading::cells::place` meets its contract: the bytes passed are placed, and the other cells are as they were.
-use mathlib.Core.List.{List}
-use mathlib.Core.Path.{◌≡◌, ap, sym, ◌∙◌}
-use Prim.Native.Nat.{ℕ, ◌+◌}
-use native.Mathlib.Omega.{arith}
-use lib.ListN.{drop, length-drop, set, take}
+use Rattle.std.proofs.Common.{List, ℕ, ◌≡◌, ◌∙◌, refl, ap, sym, suc, arith, drop, length, Some, set, take, length-take, length-drop}
+use Rattle.std.proofs.lemmas.List.{map-set}
+use Rattle.std.proofs.Math.ListN.{length-set}
 use lib.Seq.{get_or-drop}
-use Rattle.state.specs.State.{splice}
-use Rattle.intel_hex.specs.Lines.{spelled_by}
+use Rattle.state.proofs.Pieces.{splice_all}
+use Rattle.intel_hex.specs.Pairs.{pairs}
 use Rattle.intel_hex.specs.Reading.{filled}
-use Rattle.intel_hex.proofs.CellLaws.{place_more, place_none}
+use Rattle.intel_hex.proofs.CellLaws.{place_none}
+use Rattle.intel_hex.proofs.Filling.{length_filled}
+use Rattle.hex_reading.specs.Numbers.{number, numbers}
+use Rattle.hex_reading.proofs.Numbers.{length_numbers, place_next}
 use Rattle.hex_reading.proofs.cells.place.Goals as goal
 
-pub loop-i-init : goal.loop-i-init
-loop-i-init c = let a = c.args in (omega arith, place_none a.cells.now (drop 4 (spelled_by a.body.now)) a.at)
+pub loop-k-init : goal.loop-k-init
+loop-k-init c =
+    let a = c.args in record {
+      same_length = refl;
+      placed_so_far = place_none (numbers a.cells.now) (drop 4 (pairs a.spelled.now.digits.now)) 0;
+    }
 
-pub byte_in-requires : goal.byte_in-requires
-byte_in-requires c = c.requires.0
-
-pub loop-i-preserved : goal.loop-i-preserved
-loop-i-preserved c =
-    let a = c.args in
-    let i = c.loop-i.i in
-    let r = spelled_by a.body.now in
-    let b = c.byte_in in (
-      omega arith,
-      ap (λ (l : List ℕ). set l (a.at + i) (1 + b.result)) c.loop-i.invariant.1
-          ∙ place_more a.cells.now (drop 4 r) a.at i b.result (omega (arith, c.requires)) (omega (arith, c.requires, length-drop 4 r)) (b.ensures ∙ sym (get_or-drop 4 r i 0)),
-    )
+pub loop-k-preserved : goal.loop-k-preserved
+loop-k-preserved c =
+    let cells = c.args.cells.now in
+    let d = pairs c.args.spelled.now.digits.now in
+    let l = c.loop-k in
+    let b = c.byte.result in record {
+      same_length = length-set l.cells l.k (Some b) ∙ l.invariant.same_length;
+      placed_so_far = map-set number l.cells l.k (Some b)
+          ∙ ap (λ (m : List ℕ). set m l.k (suc b)) l.invariant.placed_so_far
+          ∙ place_next (numbers cells) (drop 4 d) l.k b (omega (arith, length_numbers cells, c.loop-k-test.true, l.invariant.same_length)) (omega (arith, c.requires, length-drop 4 d, c.loop-k-test.true, l.invariant.same_length)) (c.byte.ensures ∙ sym (get_or-drop 4 d l.k 0));
+    }
 
 pub returns : goal.returns
 returns c =
-    let a = c.args in
-    let e : c.loop-i.i ≡ a.n = omega arith in
-    c.loop-i.invariant.1 ∙ ap (λ (k : ℕ). splice a.at (filled (take k (drop 4 (spelled_by a.body.now)))) a.cells.now) e
+    let cells = c.args.cells.now in
+    let d = drop 4 (pairs c.args.spelled.now.digits.now) in
+    let n = length cells in
+    let e : c.loop-k.k ≡ n = omega (arith, c.loop-k-test.false, c.loop-k.invariant.same_length) in
+    rw e at c.loop-k.invariant.placed_so_far
+    ∙ splice_all (filled (take n d)) (numbers cells) (omega (arith, length_filled (take n d), length-take n d, length-drop 4 (pairs c.args.spelled.now.digits.now), length_numbers cells, c.requires))

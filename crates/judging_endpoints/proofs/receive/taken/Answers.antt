@@ -4,4 +4,4 @@ use Rattle.judging_endpoints.proofs.receive.taken.Goals as goal
 
 pub returns : goal.returns
 unfolding taken
-returns c = rw (c.least-m.ensures, c.most.ensures, c.count_at-n.ensures)
+returns c = rw (c.min-m.ensures, c.most.ensures, c.count_at-waiting.ensures)

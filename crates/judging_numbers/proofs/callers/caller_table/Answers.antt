@@ -1,16 +1,17 @@
--- `judging_numbers::callers::caller_table` meets its contract: each return rewrites with the steps that led there.
+-- `judging_numbers::callers::caller_table` meets its contract: a caller is a slot first, as the rule's steps have it.
+use Rattle.std.proofs.Common.{rules}
 use Rattle.words.specs.Try.{◌>>=◌}
 use Rattle.judging_numbers.proofs.CallerTable.{caller_steps}
 use Rattle.judging_numbers.proofs.callers.caller_table.Goals as goal
 
-pub returns-in_default : goal.returns-in_default
+pub returns-in_err-k : goal.returns-in_err-k
 unfolding ◌>>=◌
-returns-in_default c =
-    let a = c.args in
-    rw (c.why_slot.ensures, caller_steps a.s.now a.caller, ← c.caller_slot-a.ensures, c.in_default.is)
+returns-in_err-k c =
+    let steps = caller_steps c.args.s.now c.args.caller in
+    search (rules, steps)
 
 pub returns : goal.returns
 unfolding ◌>>=◌
 returns c =
-    let a = c.args in
-    rw (caller_steps a.s.now a.caller, ← c.caller_slot-a.ensures, c.in-Found.is) c.table_of_caller.ensures
+    let steps = caller_steps c.args.s.now c.args.caller in
+    search (rules, steps)

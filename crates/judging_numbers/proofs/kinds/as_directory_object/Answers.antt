@@ -1,12 +1,13 @@
--- `judging_numbers::kinds::as_directory_object` meets its contract: each return rewrites with the steps that led there.
+-- `judging_numbers::kinds::as_directory_object` meets its contract.
+use Rattle.std.proofs.Common.{rules}
 use Rattle.words.specs.Try.{◌>>=◌}
 use Rattle.rules.specs.Calls.{as_directory_object}
 use Rattle.judging_numbers.proofs.kinds.as_directory_object.Goals as goal
 
-pub returns-in_default : goal.returns-in_default
+pub returns-in_err-as_directory : goal.returns-in_err-as_directory
 unfolding as_directory_object ◌>>=◌
-returns-in_default c = rw (c.why_span.ensures, ← c.as_directory-d.ensures, c.in_default.is)
+returns-in_err-as_directory c = search rules
 
 pub returns : goal.returns
 unfolding as_directory_object ◌>>=◌
-returns c = rw (← c.as_directory-d.ensures, c.in-Found.is)
+returns c = search rules

@@ -1,25 +1,26 @@
--- `judging_pages::destruct::judge_destruct` meets its contract: each return rewrites with the steps that led there.
-use borrow.Author.Tests.{le-ltb, lt-ltb}
+-- `judging_pages::destruct::judge_destruct` meets its contract: each return is the rule's, step by step.
+use Rattle.std.proofs.Common.{rules}
 use Rattle.words.specs.Try.{◌>>=◌, ◌>>◌, need}
+use Rattle.words.specs.Tests.{◌&◌}
 use Rattle.rules.specs.Calls.{destruct}
 use Rattle.judging_pages.proofs.destruct.judge_destruct.Goals as goal
 
-pub returns-in_default : goal.returns-in_default
-unfolding destruct ◌>>=◌ ◌>>◌ need
-returns-in_default c = rw (c.why_span.ensures, ← (rw c.number_in_word.ensures at c.directory_arg-a.ensures), c.in_default.is)
+pub returns-in_err-d : goal.returns-in_err-d
+unfolding destruct ◌>>=◌ ◌>>◌ need ◌&◌
+returns-in_err-d c = search rules
 
 pub returns-then-positions_in-i : goal.returns-then-positions_in-i
-unfolding destruct ◌>>=◌ ◌>>◌ need
-returns-then-positions_in-i c = rw (← (rw c.number_in_word.ensures at c.directory_arg-a.ensures), c.in-Found.is, ← c.positions_in.ensures, le-ltb _ _ c.if-positions_in-i.true)
+unfolding destruct ◌>>=◌ ◌>>◌ need ◌&◌
+returns-then-positions_in-i c = search rules
 
 pub returns-then-not-in_span : goal.returns-then-not-in_span
-unfolding destruct ◌>>=◌ ◌>>◌ need
-returns-then-not-in_span c = rw (← (rw c.number_in_word.ensures at c.directory_arg-a.ensures), c.in-Found.is, ← c.positions_in.ensures, lt-ltb _ _ c.if-positions_in-i.false, ← c.in_span.ensures, c.if-not-in_span.true)
+unfolding destruct ◌>>=◌ ◌>>◌ need ◌&◌
+returns-then-not-in_span c = search rules
 
 pub returns-then-not-is_child : goal.returns-then-not-is_child
-unfolding destruct ◌>>=◌ ◌>>◌ need
-returns-then-not-is_child c = rw (← (rw c.number_in_word.ensures at c.directory_arg-a.ensures), c.in-Found.is, ← c.positions_in.ensures, lt-ltb _ _ c.if-positions_in-i.false, ← c.in_span.ensures, c.if-not-in_span.false, ← c.position_at.ensures, ← c.is_child.ensures, c.if-not-is_child.true)
+unfolding destruct ◌>>=◌ ◌>>◌ need ◌&◌
+returns-then-not-is_child c = search rules
 
 pub returns : goal.returns
-unfolding destruct ◌>>=◌ ◌>>◌ need
-returns c = rw (← (rw c.number_in_word.ensures at c.directory_arg-a.ensures), c.in-Found.is, ← c.positions_in.ensures, lt-ltb _ _ c.if-positions_in-i.false, ← c.in_span.ensures, c.if-not-in_span.false, ← c.position_at.ensures, ← c.is_child.ensures, c.if-not-is_child.false)
+unfolding destruct ◌>>=◌ ◌>>◌ need ◌&◌
+returns c = search rules

@@ -1,14 +1,13 @@
--- `judging_places::ages::quiet` meets its contract: each return rewrites with the steps that led there.
-use Rattle.std.proofs.Common.{le-leb}
-use borrow.Author.Tests.{lt-leb}
+-- `judging_places::ages::quiet` meets its contract: each return is the rule's, step by step.
+use Rattle.std.proofs.Common.{rules}
 use Rattle.words.specs.Try.{need}
-use Rattle.rules.specs.Places.{quiet}
+use Rattle.rules.specs.Places as Places
 use Rattle.judging_places.proofs.ages.quiet.Goals as goal
 
 pub returns-then-age-lt-QUIET_TICKS : goal.returns-then-age-lt-QUIET_TICKS
-unfolding quiet need
-returns-then-age-lt-QUIET_TICKS c = rw (← c.age.ensures, lt-leb _ _ c.if-age-lt-QUIET_TICKS.true)
+unfolding Places.quiet need
+returns-then-age-lt-QUIET_TICKS c = search rules
 
 pub returns : goal.returns
-unfolding quiet need
-returns c = rw (← c.age.ensures, le-leb _ _ c.if-age-lt-QUIET_TICKS.false)
+unfolding Places.quiet need
+returns c = search rules

@@ -1,16 +1,18 @@
--- `judging_processes::changes::judge_change_table` meets its contract: each return rewrites with the steps that led there.
+-- `judging_processes::changes::judge_change_table` meets its contract: each return is the rule's, step by step.
+use Rattle.std.proofs.Common.{rules}
+use Rattle.words.specs.Try.{◌>>=◌, ◌>>◌, need}
+use Rattle.words.specs.Tests.{◌&◌}
 use Rattle.rules.specs.Calls.{change_table}
-use Rattle.words.specs.Try.{◌>>=◌, ◌>>◌}
 use Rattle.judging_processes.proofs.changes.judge_change_table.Goals as goal
 
-pub returns-in_default : goal.returns-in_default
-unfolding change_table ◌>>=◌ ◌>>◌
-returns-in_default c = rw (c.why_slot.ensures, ← (rw c.number_in_word.ensures at c.process_arg-a.ensures), c.in_default.is)
+pub returns-in_err-p : goal.returns-in_err-p
+unfolding change_table ◌>>=◌ ◌>>◌ need ◌&◌
+returns-in_err-p c = search rules
 
-pub returns-in_default-b : goal.returns-in_default-b
-unfolding change_table ◌>>=◌ ◌>>◌
-returns-in_default-b c = rw (c.why_slot-in_default-b.ensures, ← (rw c.number_in_word.ensures at c.process_arg-a.ensures), c.in-Found.is, ← (rw c.number_in_word-2.ensures at c.table_arg-b.ensures), c.in_default-b.is)
+pub returns-in_err-o : goal.returns-in_err-o
+unfolding change_table ◌>>=◌ ◌>>◌ need ◌&◌
+returns-in_err-o c = search rules
 
 pub returns : goal.returns
-unfolding change_table ◌>>=◌ ◌>>◌
-returns c = rw (← (rw c.number_in_word.ensures at c.process_arg-a.ensures), c.in-Found.is, ← (rw c.number_in_word-2.ensures at c.table_arg-b.ensures), c.in-Found-b.is)
+unfolding change_table ◌>>=◌ ◌>>◌ need ◌&◌
+returns c = search rules

@@ -10,7 +10,7 @@ use Rattle.judging_tables.proofs.empty.is_empty_table.Goals as goal
 pub table_slots-part-requires : goal.table_slots-part-requires
 table_slots-part-requires c =
     let a = c.args in let m = c.entries_in-entries in
-    omega (arith, m.ensures, few_entries a.s.now (λ i. omega (arith, c.shared_slice_known-1.given i)) a.o.0 a.o (omega arith) refl)
+    omega (arith, m.ensures, few_entries a.s.now (λ i. omega (arith, c.type_inv.s i)) a.o.0 a.o (omega arith) refl)
 
 pub loop-e-init : goal.loop-e-init
 loop-e-init c = (omega arith, all_zero _)
@@ -18,7 +18,7 @@ loop-e-init c = (omega arith, all_zero _)
 pub is_blank_at-requires : goal.is_blank_at-requires
 is_blank_at-requires c =
     let a = c.args in let m = c.entries_in-entries in
-    omega (arith, m.ensures, few_entries a.s.now (λ i. omega (arith, c.shared_slice_known-1.given i)) a.o.0 a.o (omega arith) refl)
+    omega (arith, m.ensures, few_entries a.s.now (λ i. omega (arith, c.type_inv.s i)) a.o.0 a.o (omega arith) refl)
 
 pub returns-then-not-is_blank_at : goal.returns-then-not-is_blank_at
 returns-then-not-is_blank_at c =

@@ -5,7 +5,6 @@ use Rattle.rules.specs.Buffer.{call_outcome, sound}
 use Rattle.rules.specs.Cases.{four}
 use Rattle.rules.proofs.Lift.{sound_open}
 use Rattle.committing.proofs.Ready.{ready_plan, answer_fits}
-use Rattle.words.specs.Answers.{told_plan}
 use Rattle.state.specs.Read.{read}
 use Rattle.kernel.proofs.calls.kernel_call.Goals as goal
 
@@ -20,7 +19,7 @@ pub carry_out-requires : goal.carry_out-requires
 carry_out-requires c =
     let a = c.args in
     let e : sound a.s.now ≡ true = sym c.well_formed-2.ensures ∙ c.if-not-well_formed.false in
-    let ready = ready_plan a.s.now a.caller (four a.w0 a.w1 a.w2 a.w3) c.in-Do.a e (sym c.judge-p.ensures ∙ ap told_plan c.in-Do.is) in record {
+    let ready = ready_plan a.s.now a.caller (four a.w0 a.w1 a.w2 a.w3) c.in-Ok.a e (sym c.judge-p.ensures ∙ c.in-Ok.is) in record {
       well_formed = e;
       ready = ready;
     }
@@ -29,19 +28,19 @@ pub answer_of-requires : goal.answer_of-requires
 answer_of-requires c =
     let a = c.args in
     let e : sound a.s.now ≡ true = sym c.well_formed-2.ensures ∙ c.if-not-well_formed.false in
-    let ready = ready_plan a.s.now a.caller (four a.w0 a.w1 a.w2 a.w3) c.in-Do.a e (sym c.judge-p.ensures ∙ ap told_plan c.in-Do.is) in
-    answer_fits (read a.s.now) c.in-Do.a ready
+    let ready = ready_plan a.s.now a.caller (four a.w0 a.w1 a.w2 a.w3) c.in-Ok.a e (sym c.judge-p.ensures ∙ c.in-Ok.is) in
+    answer_fits (read a.s.now) c.in-Ok.a ready
 
-pub returns-in-Do : goal.returns-in-Do
+pub returns-in-Ok : goal.returns-in-Ok
 unfolding call_outcome
-returns-in-Do c =
+returns-in-Ok c =
     let a = c.args in
     let e : sound a.s.now ≡ true = sym c.well_formed-2.ensures ∙ c.if-not-well_formed.false in
-    rw (to_z-of_z w32 c.answer_of.result (record { sfits = c.answer_of.type_inv }), c.answer_of.ensures, c.carry_out.ensures, e, ← c.judge-p.ensures, c.in-Do.is)
+    rw (to_z-of_z w32 c.answer_of.result (record { sfits = c.answer_of.type_inv }), c.answer_of.ensures, c.carry_out.ensures, e, ← c.judge-p.ensures, c.in-Ok.is)
 
-pub returns-in-Refused : goal.returns-in-Refused
+pub returns-in-Err : goal.returns-in-Err
 unfolding call_outcome
-returns-in-Refused c =
+returns-in-Err c =
     let a = c.args in
     let e : sound a.s.now ≡ true = sym c.well_formed-2.ensures ∙ c.if-not-well_formed.false in
-    rw (to_z-of_z w32 c.refusal_number-in-Refused.result (record { sfits = c.refusal_number-in-Refused.type_inv }), c.refusal_number-in-Refused.ensures, e, ← c.judge-p.ensures, c.in-Refused.is)
+    rw (to_z-of_z w32 c.refusal_number-in-Err.result (record { sfits = c.refusal_number-in-Err.type_inv }), c.refusal_number-in-Err.ensures, e, ← c.judge-p.ensures, c.in-Err.is)

@@ -10,12 +10,12 @@ pub returns-then-words-lt2 : goal.returns-then-words-lt2
 unfolding pack_result
 returns-then-words-lt2 c = rw (lt-leb 2 _ c.if-words-lt2.true)
 
-pub returns-in-Words : goal.returns-in-Words
+pub returns-in-Ok : goal.returns-in-Ok
 unfolding pack_result
-returns-in-Words c =
+returns-in-Ok c =
     let room = c.if-words-lt2.false in
-    rw (le-leb 2 _ room, ← c.pack_grant-p.ensures, c.in-Words.is, two_in_front c.args.words.now _ _ room)
+    rw (le-leb 2 _ room, ← c.pack_grant-packed.ensures, c.in-Ok.is, two_in_front c.args.words.now _ _ room)
 
-pub returns-in-Refused : goal.returns-in-Refused
+pub returns-in-Err : goal.returns-in-Err
 unfolding pack_result
-returns-in-Refused c = rw (le-leb 2 _ c.if-words-lt2.false, ← c.pack_grant-p.ensures, c.in-Refused.is, to_z-of_z w32 c.refusal_number.result (record { sfits = c.refusal_number.type_inv }), c.refusal_number.ensures)
+returns-in-Err c = rw (le-leb 2 _ c.if-words-lt2.false, ← c.pack_grant-packed.ensures, c.in-Err.is, to_z-of_z w32 c.refusal_number.result (record { sfits = c.refusal_number.type_inv }), c.refusal_number.ensures)

@@ -1,16 +1,15 @@
--- `lines::requests::words_ask` meets its contract.
-use borrow.Author.Tests.{eq-eqb, ne_eqb}
-use Rattle.lines.specs.Requests.{request_from}
+-- `lines::requests::words_ask` meets its contract: word 0 is empty only where there is no word.
+use mathlib.Core.List.{[]}
+use mathlib.Core.Path.{◌≡◌}
+use native.Mathlib.Omega.{arith}
+use lib.ListN.{get_or, length}
+use borrow.Author.Tests.{eq-eqb}
+use Rattle.lines.proofs.Finding.{first_none}
+use Rattle.lines.specs.Words.{words_of}
 use Rattle.lines.proofs.requests.words_ask.Goals as goal
 
-pub returns-then-n-eq0 : goal.returns-then-n-eq0
-unfolding request_from
-returns-then-n-eq0 c = rw (← c.word_count-n.ensures, eq-eqb _ _ c.if-n-eq0.true)
-
-pub returns-then-byte_at-eq35 : goal.returns-then-byte_at-eq35
-unfolding request_from
-returns-then-byte_at-eq35 c = rw (← c.word_count-n.ensures, ne_eqb _ _ c.if-n-eq0.false, ← c.word-first.ensures, ← c.byte_at.ensures, eq-eqb _ _ c.if-byte_at-eq35.true)
-
-pub returns : goal.returns
-unfolding request_from
-returns c = rw (c.asked_by.ensures, ← c.word_count-n.ensures, ne_eqb _ _ c.if-n-eq0.false, ← c.word-first.ensures, ← c.byte_at.ensures, ne_eqb _ _ c.if-byte_at-eq35.false)
+pub returns-in-empty : goal.returns-in-empty
+returns-in-empty c =
+    let t = c.args.text.now in
+    let none : length (get_or (words_of t) 0 []) ≡ 0 = rw (← c.word.ensures) (omega arith) in
+    rw (eq-eqb _ _ (first_none t none))

@@ -1,30 +1,26 @@
--- `lines::spans::past_run` meets its contract: as long as bytes pass, the run from the next index on ends where the whole does.
-use mathlib.Core.Path.{refl, sym, ◌∙◌}
-use Rattle.lines.proofs.Runs.{run_more, run_stops, run_past}
+-- `lines::spans::past_run` meets its contract: the first byte that does not pass is where the run ends.
+use mathlib.Core.Bool.{not}
+use mathlib.Core.Path.{◌≡◌, ap, ◌∙◌}
+use Prim.Native.Nat.{◌-◌, ◌+◌, ◌≤◌}
+use native.Mathlib.Omega.{arith}
+use lib.ListN.{drop, length, length-drop, take}
+use lib.Seq.{take_all}
+use Rattle.std.proofs.Common.{rules, tests}
+use Rattle.std.proofs.lemmas.Iterator.{YieldsList-from_slice}
+use Rattle.std.proofs.lemmas.Iterator.Search.{position_from_yields_List}
+use Rattle.lines.proofs.Runs.{run_found, run_from}
 use Rattle.lines.specs.Spans.{passing}
 use Rattle.lines.proofs.spans.past_run.Goals as goal
-
-pub loop-i-init : goal.loop-i-init
-loop-i-init c = refl
-
-pub returns-then-not-passes : goal.returns-then-not-passes
-returns-then-not-passes c =
-    let a = c.args in
-    let l = c.loop-i in
-    let t = c.passes in
-    sym (l.invariant ∙ run_stops (passing a.blanks) a.line.now l.i c.loop-i-test.true
-    (sym t.ensures ∙ c.if-not-passes.true))
-
-pub loop-i-preserved : goal.loop-i-preserved
-loop-i-preserved c =
-    let a = c.args in
-    let l = c.loop-i in
-    let t = c.passes in
-    l.invariant ∙ run_more (passing a.blanks) a.line.now l.i c.loop-i-test.true
-    (sym t.ensures ∙ c.if-not-passes.false)
 
 pub returns : goal.returns
 returns c =
     let a = c.args in
-    let l = c.loop-i in
-    sym (l.invariant ∙ run_past (passing a.blanks) a.line.now l.i c.loop-i-test.false)
+    let l = a.line.now in
+    let s = c.min-start.result in
+    let p = passing a.blanks in
+    let all : length (drop s l) ≤ length l - s = rw length-drop (omega arith) in
+    let rest : take (length l - s) (drop s l) ≡ drop s l = take_all (length l - s) (drop s l) all in
+    let found = position_from_yields_List (λ b. not (p b)) _ _ c.position.result c.position.ensures.ran (YieldsList-from_slice _ (c.iter.ensures.rest ∙ rest)) (λ x b q k. search (rules, tests)) in
+    let stop = run_found p (drop s l) c.position.result found in
+    let size = rw rest at c.unwrap_or.ensures in
+    rw (run_from p l a.at, ← c.min-start.ensures, size) (ap (λ n. s + n) stop)

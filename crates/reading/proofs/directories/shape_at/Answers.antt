@@ -30,6 +30,6 @@ returns-then-tag_byte-eq-DIRECTORY_TAG c = let a = c.args in
     )
     (sym (shape_known a.s.now a.d (search rules) tag))
 
-pub returns : goal.returns
-returns c = let a = c.args in
+pub returns-else-tag_byte-eq-DIRECTORY_TAG : goal.returns-else-tag_byte-eq-DIRECTORY_TAG
+returns-else-tag_byte-eq-DIRECTORY_TAG c = let a = c.args in
     sym (shape_none a.s.now a.d (search rules) (λ x. c.if-tag_byte-eq-DIRECTORY_TAG.false (c.tag_byte.ensures ∙ x)))

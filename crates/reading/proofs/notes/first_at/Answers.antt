@@ -11,6 +11,6 @@ returns-then-tag_byte-eq-LATER_TAG c = let a = c.args in
     ap slot c.argument_byte.ensures
     ∙ sym (first_known a.s.now a.k (search rules) tag a.k.0)
 
-pub returns : goal.returns
-returns c = let a = c.args in
+pub returns-else-tag_byte-eq-LATER_TAG : goal.returns-else-tag_byte-eq-LATER_TAG
+returns-else-tag_byte-eq-LATER_TAG c = let a = c.args in
     sym (first_none a.s.now a.k (search rules) (λ x. c.if-tag_byte-eq-LATER_TAG.false (c.tag_byte.ensures ∙ x)) a.k.0)

@@ -1,16 +1,10 @@
 -- `reading::processes::directory_named` meets its contract: a process's own bytes name it.
-use mathlib.Core.Path.{sym, ◌∙◌, ap}
+use mathlib.Core.Path.{◌∙◌}
 use borrow.Author.Rules.{rules}
-use Rattle.words.specs.Fields.{slot}
 use Rattle.state.proofs.Look.{directory_known, directory_none}
+use Rattle.reading.proofs.Tagged.{tagged}
 use Rattle.reading.proofs.processes.directory_named.Goals as goal
-
-pub returns-then-tag_byte-eq-PROCESS_TAG : goal.returns-then-tag_byte-eq-PROCESS_TAG
-returns-then-tag_byte-eq-PROCESS_TAG c = let a = c.args in
-    let tag = sym c.tag_byte.ensures ∙ c.if-tag_byte-eq-PROCESS_TAG.true in
-    ap slot c.byte_at.ensures
-    ∙ sym (directory_known a.s.now a.p (search rules) tag)
 
 pub returns : goal.returns
 returns c = let a = c.args in
-    sym (directory_none a.s.now a.p (search rules) (λ x. c.if-tag_byte-eq-PROCESS_TAG.false (c.tag_byte.ensures ∙ x)))
+    c.named.ensures ∙ tagged a.s.now a.p.0 4 _ _ _ (directory_known a.s.now a.p (search rules)) (directory_none a.s.now a.p (search rules))

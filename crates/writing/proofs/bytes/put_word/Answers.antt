@@ -1,16 +1,10 @@
--- `writing::bytes::put_word` meets its contract: four stores are one part replaced (`four`).
-use Rattle.std.proofs.Common.{arith, length-set}
-use Rattle.writing.proofs.Stores.{four}
+-- `writing::bytes::put_word` meets its contract: the four bytes that were lent come back as the word's (`lent`).
+use Rattle.std.proofs.Common.{refl, ◌∙◌}
+use Rattle.state.specs.Bytes.{le32}
+use Rattle.writing.proofs.Digits.{le32_bytes}
+use Rattle.writing.proofs.Stores.{lent}
 use Rattle.writing.proofs.bytes.put_word.Goals as goal
 
-pub bounds-s-at-2 : goal.bounds-s-at-2
-bounds-s-at-2 c = simp length-set (omega arith)
-
-pub bounds-s-at-3 : goal.bounds-s-at-3
-bounds-s-at-3 c = simp length-set (omega arith)
-
-pub bounds-s-at-4 : goal.bounds-s-at-4
-bounds-s-at-4 c = simp length-set (omega arith)
-
 pub returns : goal.returns
-returns c = four c.args.s.now c.args.at _ _ _ _ c.requires
+returns c = let a = c.args in
+    lent a.s.now _ (le32 a.v) a.at 4 (c.copy_from_slice.ensures.after ∙ c.to_le_bytes.ensures ∙ le32_bytes a.v) refl

@@ -2,10 +2,10 @@
 use Rattle.state.specs.Bytes.{place_bytes}
 use Rattle.writing.proofs.tables.place_words.Goals as goal
 
-pub returns-in-Blank : goal.returns-in-Blank
+pub returns-in-None : goal.returns-in-None
 unfolding place_bytes
-returns-in-Blank c = rw c.in-Blank.is
+returns-in-None c = rw c.in-None.is
 
-pub returns-in-Holds : goal.returns-in-Holds
+pub returns-in-Some : goal.returns-in-Some
 unfolding place_bytes
-returns-in-Holds c = rw c.in-Holds.is c.right_words.ensures
+returns-in-Some c = rw c.in-Some.is c.right_words.ensures

@@ -1,0 +1,8 @@
+// What a line's reply goes by.
+
+// The line's number, and whether an answer has words behind it.
+#[derive(Clone, Copy)]
+pub struct Reply {
+    pub number: u64,
+    pub in_words: bool,
+}
