@@ -1,5 +1,5 @@
 // The check of a state: whether a buffer holds a well-formed one. It asks nothing of the buffer; each part of it asks for what
-// the parts before it have shown.
+// the parts before it have shown, by clauses: a type that carries the state with the list of heads and these facts would be built here alone.
 #![tactic(auto)]
 
 ghost use Rattle.std.specs.Prelude.{◌≡◌};

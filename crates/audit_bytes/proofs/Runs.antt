@@ -2,7 +2,7 @@
 use mathlib.Core.Bool.{Bool}
 use mathlib.Core.List.{List, [], ◌∷◌}
 use mathlib.Core.Path.{◌≡◌, ap, ap₂, refl, sym, ◌∙◌}
-use Prim.Native.Nat.{◌*◌, ◌+◌, suc, ℕ, ◌≤◌}
+use Prim.Native.Nat.{◌*◌, ◌+◌, suc, zero, ℕ, ◌≤◌}
 use native.Mathlib.Omega.{arith}
 use lib.Dec.{eqb}
 use lib.ListN.{drop, get_or, length, length-replicate, replicate}
@@ -42,6 +42,11 @@ module _ {A : Type 0} (g : A → List ℕ) (w : ℕ) (u : (x : A) → length (g 
       ∙ all_agree n _ _ (λ i h. ap₂ (λ (x : A) (y : List ℕ). starts (g x) y) (listed_at n f d i h) (drop-drop (w * i) at l))
 
 -- ---- zeros
+get_or_zeros : (n k : ℕ) → ◌≡◌ {A = ℕ} (get_or (replicate n 0) k 0) 0
+get_or_zeros zero k = refl
+get_or_zeros (suc n) zero = refl
+get_or_zeros (suc n) (suc k) = get_or_zeros n k
+
 module _ (l : List ℕ) (u : Bytes l) where
   pub zeros_stand : (at n : ℕ) → at + 4 * n ≤ length l → starts (replicate (4 * n) 0) (drop at l) ≡ zero_words l at n
   unfolding zero_words

@@ -12,7 +12,8 @@ use crate::objects::objects_stand;
 use crate::zeros::zeros_in;
 use words::layout::{SPARE_OFFSET, SPARE_WORDS};
 
-// Whether a buffer whose objects are laid out is the bytes of the state that it is read as.
+// Whether a buffer whose objects are laid out is the bytes of the state that it is read as. Slice and count stay two parameters here and below:
+// the later parts of the check get the same slice and no count.
 pub fn canonical(s: &[u8], n: usize) -> bool
     requires { (length s.now ≡ state_length) × (apart (read s.now) ≡ true) × Vacant s.now n }
     ensures { result ≡ same (bytes (read s.now)) s.now }

@@ -14,7 +14,7 @@ use words::layout::{
 };
 use words::sizes::{HEADER_SIZE, POSITION_SIZE, SLOT_COUNT_U32};
 
-// By the tag, the lowest byte of its first word: a page has flags and any frame, a child flags and a slot, and what is empty is zero.
+// By the tag, the lowest byte of its first word and the layout's number (docs/LAYOUT.md): a page has flags and any frame, a child flags and a slot, and what is empty is zero.
 fn position_clean(first: u32, second: u32) -> bool
     ensures { result ≡ position_clean first second }
 {
@@ -32,6 +32,7 @@ fn position_stands(p: &[u8], at: usize) -> bool
     position_clean(word_in(p, at), word_in(p, at + POSITION_VALUE_AT))
 }
 
+// Slots are rounded up, so that a part may hold more than its n positions: it is no list of just these to walk.
 fn positions_stand(p: &[u8], n: usize) -> bool
     requires { header_size + position_size * n ≤ length p.now }
     ensures { result ≡ all_below n (λ i. position_stands p.now (header_size + position_size * i)) }

@@ -10,6 +10,7 @@ use crate::zeros::zeros_in;
 use words::layout::ENTRY_WORDS;
 use words::sizes::ENTRY_SIZE;
 
+// Slots are rounded up, so that a part may hold more than its n entries: it is no list of just these to walk.
 fn places_stand(p: &[u8], n: usize) -> bool
     requires { entry_size * n ≤ length p.now }
     ensures { result ≡ all_below n (λ i. place_stands p.now (entry_size * i)) }

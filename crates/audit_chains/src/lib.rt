@@ -113,7 +113,7 @@ impl MarkedState<'_> {
         self.parent_reaches(parent)
     }
 
-    // The n entries of a table, in its own part of the state.
+    // The n entries of a table, in its own part of the state, which may hold more: slots are rounded up.
     fn table_chained(&mut self, part: &[u8], n: u32) -> bool
         requires { (n ≤ place_count) × (entry_size * n ≤ length part.now) × ((e : ℕ) → e < n → parent_stands (read self.old.s.now) (place_of part.now (entry_size * e)) ≡ true) }
         ensures told { result ≡ all_below n (λ e. place_chained (read self.old.s.now) (place_of part.now (entry_size * e))) }

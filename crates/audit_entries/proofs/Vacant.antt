@@ -1,8 +1,8 @@
 -- Behind the slots that are used every slot is free, and a test that free slots pass is passed by all.
 use mathlib.Core.Bool.{Bool, false, true}
 use mathlib.Core.List.{List}
-use mathlib.Core.Path.{refl, ◌≡◌}
-use Prim.Native.Nat.{◌<◌, ℕ, ◌≤◌}
+use mathlib.Core.Path.{ap, refl, ◌∙◌, ◌≡◌}
+use Prim.Native.Nat.{◌*◌, ◌+◌, ◌-◌, ◌<◌, ℕ, ◌≤◌}
 use native.Mathlib.Omega.{arith}
 use lib.Dec.{ltb}
 use borrow.Author.Tests.{ltb-false, ltb-true}
@@ -11,7 +11,7 @@ use Rattle.state.specs.Read.{object_from, read, word_at}
 use Rattle.state.specs.State.{free, obj_at}
 use Rattle.words.proofs.Tests.{all_at, all_of}
 use Rattle.words.specs.Fields.{slot}
-use Rattle.words.specs.Sizes.{slot_count}
+use Rattle.words.specs.Sizes.{memory_length, slot_count}
 use Rattle.words.specs.Tests.{all_below}
 use Rattle.audit_entries.specs.Vacant.{Used, Vacant}
 
@@ -30,6 +30,17 @@ module _ (b : List ℕ) (n : ℕ) (v : Vacant b n) where
       go : (k : ℕ) → k < slot_count → (z : Bool) → ltb k n ≡ z → p k ≡ true
       go k l true q = all_at n p e k (ltb-true k n q)
       go k l false q = f k (ltb-false k n q) l
+
+-- the search ends at a note that is not zeros, or at none
+pub used_at_lem : (b : List ℕ) (n : ℕ) → 0 < n → Vacant b n → (word_at b (16380 + 4 * n) ≡ 0 → ⊥) → Used b n
+used_at_lem b n some v e = record { vacant = v; least = λ m w. go m w (ltb m n) refl }
+  where
+    go : (m : ℕ) → Vacant b m → (z : Bool) → ltb m n ≡ z → n ≤ m
+    go m w true q =
+        let l : m < n = ltb-true m n q in
+        let last : 16380 + 4 * n ≡ memory_length + 4 * (n - 1) = omega arith in
+        absurd (e (ap (word_at b) last ∙ w.blank (n - 1) (omega arith) (omega (arith, v.few))))
+    go m w false q = ltb-false m n q
 
 -- the least number is one number
 pub used_same : (b : List ℕ) (m n : ℕ) → Used b m → Used b n → m ≡ n

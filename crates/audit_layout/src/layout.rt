@@ -20,7 +20,7 @@ fn goes_on(s: &[u8], first: Slot, k: Slot) -> bool
     tag_in(s, k) == LATER_TAG && argument_in(s, k) == first.0
 }
 
-// `owed` slots still belong to the object that stands at `first`. Behind the n slots that are used nothing can be owed.
+// `owed` slots still belong to the object that stands at `first`: two numbers and no Option, since 0 owed asks nothing of `first`. Behind the n slots that are used nothing can be owed.
 // The slice and the count stay two parameters: the check's later parts get the same slice with other facts and no count.
 pub fn laid_out(s: &[u8], n: usize) -> bool
     requires { (length s.now ≡ state_length) × Vacant s.now n }

@@ -13,7 +13,8 @@ use words::sizes::{
 };
 
 // The slots of what stands in a slot, as its note tells; none where an object goes on. Tags are the layout's numbers (docs/LAYOUT.md).
-// `committing` has a size of its own for a buffer of any length, where each read is tested; this is asked of every slot that is used.
+// `committing` has a size of its own for a buffer of any length, where each read is tested; this is asked of every slot that is used,
+// and rounds up in its own width: a call of `slots_for` would widen and cut what is divided.
 #[tactic(auto, using(state::proofs::Few::few_positions))]
 pub fn size_at(s: &[u8], k: Slot) -> u16
     requires { length s.now ≡ state_length }

@@ -5,33 +5,17 @@ ghost use Rattle.words.specs.Tests.{all_below};
 ghost use Rattle.state.specs.Bytes.{directory_tag, tag_of};
 ghost use Rattle.state.specs.Read.{position_of, read};
 ghost use Rattle.state.specs.State.{obj_at};
-ghost use Rattle.rules.specs.WellFormed.{apart, geometric, hangs, object_ok, position_ok};
+ghost use Rattle.rules.specs.WellFormed.{apart, hangs, object_ok, position_ok};
 
 use audit_entries::word_in;
+use orders::{is_geometric, is_multiple};
 use reading::directories::{directory_slots, positions_in, shape_at};
 use reading::notes::tag_at;
 use words::capabilities::Geometry;
 use words::flag_bits::PAGE_FLAGS_U8;
 use words::layout::{CHILD, DIRECTORY_TAG, PAGE, POSITION_FLAGS_AT, POSITION_VALUE_AT};
 use words::numbers::Slot;
-use words::orders::is_multiple;
-use words::sizes::{
-    HEADER_SIZE, LEAST_NUMBER_ORDER, LEAST_SIZE_ORDER, MOST_NUMBER_ORDER, MOST_ORDER_SUM,
-    MOST_SIZE_ORDER, POSITION_SIZE,
-};
-
-// "size order 6..31, number order 1..8, sum at most 32, start a multiple of 2^sum"
-// The judge of directories asks the same of a shape that a call names: `reading`, whose code both rest on, does not rest on the rules.
-fn geometry_ok(g: Geometry) -> bool
-    ensures { result ≡ geometric g }
-{
-    LEAST_SIZE_ORDER <= g.size
-        && g.size <= MOST_SIZE_ORDER
-        && LEAST_NUMBER_ORDER <= g.number
-        && g.number <= MOST_NUMBER_ORDER
-        && g.size + g.number <= MOST_ORDER_SUM
-        && is_multiple(g.start, g.size + g.number)
-}
+use words::sizes::{HEADER_SIZE, POSITION_SIZE};
 
 // "a child directory satisfies the construct rule": it is no top, and its size order plus number order is the parent's size order.
 fn child_ok(s: &[u8], g: Geometry, o: Slot) -> bool
@@ -59,6 +43,7 @@ fn position_ok(s: &[u8], g: Geometry, p: &[u8], at: usize) -> bool
     }
 }
 
+// Slots are rounded up, so that a part may hold more than its n positions: it is no list of just these to walk.
 fn positions_ok(s: &[u8], g: Geometry, p: &[u8], n: usize) -> bool
     requires { (header_size + position_size * n ≤ length p.now) × (g.size ≤ most_size_order) }
     ensures { result ≡ all_below n (λ i. position_ok (read s.now) g (position_of p.now (header_size + position_size * i))) }
@@ -71,7 +56,7 @@ pub(crate) fn directory_ok(s: &[u8], k: Slot) -> bool
     ensures { result ≡ object_ok (read s.now) k (obj_at (read s.now) k) }
 {
     let g = shape_at(s, k);
-    if !geometry_ok(g) {
+    if !is_geometric(g) {
         return false;
     }
     let n = positions_in(s, k);

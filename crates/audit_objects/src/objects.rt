@@ -45,7 +45,7 @@ fn object_ok(s: &[u8], k: Slot) -> bool
     }
 }
 
-// What is not among the listed slots is free or goes on.
+// What is not among the listed slots is free or goes on. State and list are two slices, as in rights.rt of `audit_rights`.
 pub fn objects_ok(s: &[u8], heads: &[u8]) -> bool
     requires { (length s.now ≡ state_length) × (apart (read s.now) ≡ true) × AreHeads s.now heads.now }
     ensures { result ≡ every_object (read s.now) (object_ok (read s.now)) }

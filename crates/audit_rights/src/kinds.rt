@@ -24,7 +24,7 @@ const KERNEL_END_U64: u64 = KERNEL_END as u64;
 
 const LAST_FUNCTION_U64: u64 = LAST_FUNCTION as u64;
 
-// The kind of the entry that starts at a byte of a part, by its number.
+// The kind of the entry that starts at a byte of a part, by its number, as docs/LAYOUT.md has it. `reading` has one for any part, which tests each read.
 pub(crate) fn kind_in(p: &[u8], at: usize, number: u32) -> Kind
     requires { at + entry_size ≤ length p.now }
     ensures { result ≡ kind_from number (slot (get_or p.now (at + object_at) 0)) (word_at p.now (at + low_at)) (word_at p.now (at + high_at)) }

@@ -17,7 +17,7 @@ use words::layout::{FLAGS_AT, HIGH_AT, LOW_AT, OBJECT_AT};
 use words::numbers::Slot;
 use words::sizes::{ENTRY_SIZE, PLACE_COUNT_U32};
 
-// Whether a kind lies inside one of the same number, with these words.
+// Whether a kind lies inside one of the same number, with these words. An object is compared with the byte that the entry has.
 fn inside_words(kind: Kind, object: u8, low: u32, high: u32) -> bool
     ensures { result ≡ inside_words kind object low high }
 {
@@ -33,7 +33,7 @@ fn inside_words(kind: Kind, object: u8, low: u32, high: u32) -> bool
     }
 }
 
-// Whether the entry that starts at a byte of a part fits as parent.
+// Whether the entry that starts at a byte of a part fits as parent; part and byte as `place_of` takes them.
 fn parent_fits(s: &[u8], at: usize, kind: Kind, flags: u32) -> bool
     requires { at + entry_size ≤ length s.now }
     ensures { result ≡ parent_fits (bare kind flags None) (place_of s.now at) }

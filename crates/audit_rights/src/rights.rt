@@ -18,6 +18,7 @@ use words::layout::{BLANK, FLAGS_AT, FUNCTION_KIND, PARENT_AT};
 use words::numbers::Slot;
 use words::sizes::ENTRY_SIZE;
 
+// Kind, flags and parent are the words of an entry and no `Capability`, which would have a frozen mark too.
 // A root has "all its flags and whole range"; the parent's word is 0 for a root, else the parent's place number and 1.
 fn descent_ok(s: &[u8], kind: Kind, flags: u32, parent: u32) -> bool
     requires { length s.now ≡ state_length }
@@ -56,6 +57,7 @@ fn entry_ok(s: &[u8], p: &[u8], at: usize) -> bool
     )
 }
 
+// Slots are rounded up, so that a part may hold more than its n entries: it is no list of just these to walk.
 fn entries_ok(s: &[u8], p: &[u8], n: usize) -> bool
     requires { (length s.now ≡ state_length) × (entry_size * n ≤ length p.now) }
     ensures { result ≡ all_below n (λ e. right (right_but_chain (read s.now)) (place_of p.now (entry_size * e))) }
@@ -71,7 +73,7 @@ fn table_ok(s: &[u8], t: Slot) -> bool
     n == 0 || entries_ok(s, table_slots(s, t, n), n as usize)
 }
 
-// Every table is among the listed slots.
+// Every table is among the listed slots. State and list are two slices here as in the check's other parts: each walks the one for the other once.
 pub fn rights_ok(s: &[u8], heads: &[u8]) -> bool
     requires { (length s.now ≡ state_length) × (apart (read s.now) ≡ true) × AreHeads s.now heads.now }
     ensures { result ≡ every_place (read s.now) (right (right_but_chain (read s.now))) }

@@ -58,7 +58,7 @@ fn count_entry(p: &[u8], at: usize, counts: &mut [u32; KEY_COUNT])
     }
 }
 
-// The roots among the n entries of a table, in its own part of the state.
+// The roots among the n entries of a table, in its own part of the state, which may hold more: slots are rounded up.
 fn count_table(p: &[u8], n: u32, counts: &mut [u32; KEY_COUNT])
     requires { (entry_size * n ≤ length p.now) × (n ≤ place_count) × UpTo most_roots counts.old }
     ensures { Counts counts.new (more counts.old (roots_among (λ e. place_of p.now (entry_size * e)) n)) }
@@ -78,7 +78,7 @@ fn count_slot(s: &[u8], t: Slot, counts: &mut [u32; KEY_COUNT])
     }
 }
 
-// The roots in every table: each is among the listed slots.
+// The roots in every table: each is among the listed slots. State and list are two slices, as in rights.rt of `audit_rights`.
 fn count_all(s: &[u8], heads: &[u8], counts: &mut [u32; KEY_COUNT])
     requires { (length s.now ≡ state_length) × Laid (read s.now) × AreHeads s.now heads.now × Counts counts.old (roots_below (read s.now) 0) }
     ensures { Counts counts.new (roots_below (read s.now) slot_count) }

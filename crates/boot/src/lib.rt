@@ -61,7 +61,7 @@ const BOOT_ENDPOINT: u8 = 19;
 const MARK: u32 = 1;
 
 // "a 32-entry table at slot 0; a top directory at slot 16 (size order 29, number order 3, start 0 ..); a process at 18 with both;
-// an endpoint at 19", which bears the boot mark
+// an endpoint at 19", which bears the boot mark. The buffer stays a slice with its length in a clause, as `store_boot` is lent it.
 fn store_objects(s: &mut [u8])
     requires { length s.old ≡ state_length }
     ensures { s.new ≡ with_objects s.old }

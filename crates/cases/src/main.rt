@@ -99,6 +99,7 @@ const STEPS: [Step; 20] = [
 // The boot endpoint's count: the first word of slot 19.
 const COUNT: usize = 19 * SLOT_SIZE;
 
+// Four lines, as `hex_cases` has too: a library for them would be longer.
 fn boot(rt: &impl Print, s: &mut [u8; STATE_LENGTH]) -> Result<()> {
     if kernel_boot(s) != 0 {
         println!(rt; "boot refused")?;

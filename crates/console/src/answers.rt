@@ -43,10 +43,11 @@ enum Meaning {
 }
 
 impl Meaning {
-    fn of_call(call: u32) -> Self {
+    // Of the call of that number, or of a tick.
+    fn of_call(call: Option<u32>) -> Self {
         match call {
-            RECEIVE => Meaning::Signals,
-            FUNCTION => Meaning::Clock,
+            Some(RECEIVE) => Meaning::Signals,
+            Some(FUNCTION) => Meaning::Clock,
             _ => Meaning::Done,
         }
     }
@@ -64,8 +65,8 @@ fn say_success(rt: &impl Print, n: u64, meaning: Meaning) -> Result<()> {
 }
 
 impl Reply {
-    // The answer n to the call of that number; a tick has none, and 0 stands for it. A refusal −(k + 1) has k for its complement.
-    pub(crate) fn say_answer(self, rt: &impl Print, n: i32, call: u32) -> Result<()> {
+    // The answer n to the call of that number, or to a tick. A refusal −(k + 1) has k for its complement.
+    pub(crate) fn say_answer(self, rt: &impl Print, n: i32, call: Option<u32>) -> Result<()> {
         let k = count_of(!n);
         let count = u64::from(count_of(n));
         match (n < 0, self.in_words) {

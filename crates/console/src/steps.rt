@@ -8,7 +8,7 @@ use lines::requests::{Call, Request, name_in, request_in};
 use showing::show;
 use std::io::Result;
 use std::rt::Files;
-use words::fields::{CALL_NUMBERS, HALF};
+use words::fields::{Words, call_number};
 use words::sizes::STATE_LENGTH;
 
 // The state that the lines act on, and whether answers have words behind them.
@@ -18,9 +18,14 @@ pub struct Session {
     in_words: bool,
 }
 
-// N[5:0], the call number.
-fn call_number(w0: u32) -> u32 {
-    w0 / HALF % CALL_NUMBERS
+// The words of a call; nc is N:C.
+fn words_of(c: Call) -> Words {
+    Words {
+        nc: c.w0,
+        p1: c.w1,
+        p2: c.w2,
+        p3: c.w3,
+    }
 }
 
 impl Session {
@@ -69,8 +74,11 @@ impl Session {
             Request::Show => show(rt, &self.state),
             Request::Save => save(rt, &self.state, name_in(line), reply),
             Request::Load => load(rt, &mut self.state, name_in(line), reply),
-            Request::Tick(k) => reply.say_answer(rt, self.tick(k), 0),
-            Request::Call(c) => reply.say_answer(rt, self.call(c), call_number(c.w0)),
+            Request::Tick(k) => reply.say_answer(rt, self.tick(k), None),
+            Request::Call(c) => {
+                let number = call_number(words_of(c));
+                reply.say_answer(rt, self.call(c), Some(number))
+            },
         }
     }
 

@@ -21,7 +21,7 @@ enum Outcome {
 }
 
 impl Outcome {
-    // By the answer to reading a text.
+    // By the answer to reading a text; the number of another answer has no outcome of its own.
     fn of_load(answer: i32) -> Self {
         match answer {
             0 => Outcome::Loaded,

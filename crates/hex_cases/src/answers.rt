@@ -34,7 +34,7 @@ impl Answer {
         }
     }
 
-    // The answer that has a number; reading has no others.
+    // The answer that has a number; reading has no others. Beside `number`, so that the two are read together.
     pub(crate) fn of(number: i32) -> Option<Answer> {
         match number {
             0 => Some(Answer::Taken),

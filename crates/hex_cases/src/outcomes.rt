@@ -19,6 +19,7 @@ pub struct Outcome {
     is_right: bool,
 }
 
+// Four lines, as `cases` has too: a library for them would be longer.
 pub(crate) fn boot(rt: &impl Print, s: &mut [u8; STATE_LENGTH]) -> Result<()> {
     if kernel_boot(s) != 0 {
         println!(rt; "boot refused")?;

@@ -33,6 +33,7 @@ fn fault_number(f: Fault) -> i32
     }
 }
 
+// A function and no `From`: its contract is an equation with the definition of the same name.
 pub(crate) fn number_of(u: Unread) -> i32
     ensures { result ≡ number_of u }
 {

@@ -96,6 +96,7 @@ impl<'a> Record<'a> {
         ensures { result ≡ eqb (sum_of (pairs self.now.digits.now) % 256) 0 }
     {
         let mut sum: u8 = 0;
+        // by number: two digits are a byte, and `byte` reads them
         for k in 0..self.digits.len() / 2 {
             sum = sum.wrapping_add(self.byte(k));
         }

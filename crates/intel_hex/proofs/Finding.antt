@@ -7,12 +7,13 @@ use native.Mathlib.Omega.{arith}
 use lib.Dec.{eqb}
 use lib.ListN.{get_or, length, take, drop}
 use lib.Seq.{drop-cons}
-use borrow.Author.Tests.{ltb-true}
+use borrow.Author.Tests.{eq-eqb, ltb-true}
 use Rattle.words.proofs.Tests.{and_left, and_right}
 use Rattle.words.specs.Tests.{choose}
 use Rattle.digits.specs.Digits.{all_digits, digit_of}
 use Rattle.intel_hex.specs.Pairs.{all_hex, pairs}
 use Rattle.intel_hex.specs.Lines.{line_length, lines_of, longer}
+use Rattle.intel_hex.specs.Marks.{line_feed}
 
 -- ---- the first line and the rest
 pub lines_next : (x : ℕ) (xs : List ℕ) → lines_of (x ∷ xs) ≡ take (line_length (x ∷ xs)) (x ∷ xs) ∷ lines_of (drop (line_length (x ∷ xs)) (x ∷ xs))
@@ -66,3 +67,8 @@ pairs_at (a ∷ b ∷ bs) (suc k) h =
     let e : 2 * suc k ≡ suc (suc (2 * k)) = omega arith in
     let f : suc (suc (2 * k)) + 1 ≡ suc (suc (2 * k + 1)) = omega arith in
     rw (e, f) (pairs_at bs k (omega arith))
+
+-- where a line feed stands the line ends
+pub line_feed_lem : (t : List ℕ) (i : ℕ) → i < length t → get_or t i 0 ≡ line_feed → i + line_length (drop i t) ≡ i + 1
+unfolding line_length
+line_feed_lem t i h e = rw (drop-cons t i 0 h, eq-eqb _ _ e)

@@ -1,4 +1,5 @@
 // What a call comes to: −18, −17, then the arguments of its judge. This half of a call only reads, so a refusal changes nothing.
+// Five judges ask for a well-formed state, by a clause and not by a type: fifteen take any, and a type would be built in `kernel_call` alone.
 #![tactic(auto)]
 
 ghost use Rattle.std.specs.Prelude.{◌≡◌, true};
@@ -35,7 +36,7 @@ use words::fields::{Words, call_number};
 use words::numbers::Slot;
 use words::refusals::Refusal;
 
-// "N[5:0] is the call number"; −17 where it is not 1..20.
+// "N[5:0] is the call number"; −17 where it is not 1..20. A match and no table of functions: each judge is another rule.
 fn judge_call(s: &[u8], t: Slot, w: Words) -> Result<Action, Refusal>
     requires { wf (read s.now) ≡ true }
     ensures { result ≡ call_of (call_number w) (read s.now) t w }

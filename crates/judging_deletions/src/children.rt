@@ -43,6 +43,7 @@ fn is_child(part: &[u8], e: u32, n: u64) -> bool
     kind <= FUNCTION_KIND
 }
 
+// Labelled loops, left at the first one found: document 01 names the form for this search.
 pub(crate) fn has_children(s: &[u8], p: Spot) -> bool
     ensures { result ≡ has_children (read s.now) p }
 {

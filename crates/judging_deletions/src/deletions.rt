@@ -37,7 +37,7 @@ fn after_type(s: &[u8], p: Spot, c: Capability, o: Slot) -> Result<Slot, Refusal
     Ok(o)
 }
 
-// `kind` makes of a right's kind the object, or refuses it: TYPE.
+// `kind` makes of a right's kind the object, or refuses it: TYPE. Table and entry apart, as the rule has them (`to_delete kind st t e`).
 fn to_delete<F: FnOnce(Kind) -> Result<Slot, Refusal>>(
     s: &[u8],
     t: Slot,

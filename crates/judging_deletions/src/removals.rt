@@ -10,6 +10,7 @@ use words::actions::Spot;
 use words::numbers::Slot;
 use words::refusals::Refusal;
 
+// Table and entry apart, as the rule has them (`to_remove st t e`).
 pub fn to_remove(s: &[u8], t: Slot, e: u32) -> Result<Spot, Refusal>
     ensures { result ≡ to_remove (read s.now) t e }
 {

@@ -23,6 +23,7 @@ fn is_user(s: &[u8], k: Slot, o: Slot) -> bool
     directory_named(s, k) == o
 }
 
+// Labelled loops, left at the first one found: document 01 names the form for this search.
 pub(crate) fn has_users(s: &[u8], o: Slot) -> bool
     ensures { result ≡ has_users (read s.now) o }
 {

@@ -7,10 +7,11 @@ ghost use Rattle.rules.specs.Calls.{create_directory};
 ghost use Rattle.rules.specs.WellFormed.{wf};
 ghost use Rattle.judging_directories.specs.Shaping.{shape_and_place};
 
-use crate::geometry::{is_geometric, shape_asked, slots_taken};
+use crate::geometry::{shape_asked, slots_taken};
 use judging_numbers::arguments::{memory_arg, table_arg};
 use judging_places::addresses::address_arg;
 use judging_places::places::to_fill;
+use orders::is_geometric;
 use words::actions::{Action, Spot};
 use words::capabilities::{Geometry, Stretch};
 use words::fields::{Words, address_in_word, number_in_c, number_in_d1, q1};

@@ -1,18 +1,12 @@
-// "Directory geometry: size order 6..31, number order 1..8, sum at most 32, start a multiple of 2^sum", and the slots that a directory
-// of a number order takes.
-ghost use Rattle.std.specs.Prelude.{◌≡◌, ◌%◌, ◌*◌, ◌+◌, ◌^◌, ◌≤◌, eqb};
-ghost use Rattle.words.specs.Sizes.{header_size, most_number_order, most_order_sum, position_size, slots_for};
+// The geometry that a call asks of a new directory, and the slots that a directory of a number order takes.
+ghost use Rattle.std.specs.Prelude.{◌≡◌, ◌*◌, ◌+◌, ◌^◌, ◌≤◌};
+ghost use Rattle.words.specs.Sizes.{header_size, most_number_order, position_size, slots_for};
 ghost use Rattle.rules.specs.Calls.{shape_asked};
-ghost use Rattle.rules.specs.WellFormed.{geometric};
 
 use judging_numbers::lookups::has_flag;
 use words::capabilities::Geometry;
 use words::fields::{Words, number_order, q0};
-use words::orders::is_multiple;
-use words::sizes::{
-    HEADER_SIZE_U32, LEAST_NUMBER_ORDER, LEAST_SIZE_ORDER, MOST_NUMBER_ORDER, MOST_ORDER_SUM,
-    MOST_SIZE_ORDER, POSITION_SIZE_U32, slots_for,
-};
+use words::sizes::{HEADER_SIZE_U32, POSITION_SIZE_U32, slots_for};
 
 // "start with top mark in bit 0"
 const TOP_MARK: u32 = 0;
@@ -27,30 +21,6 @@ pub(crate) fn shape_asked(w: Words) -> Geometry
         top: has_flag(w.p3, TOP_MARK),
         start: w.p3 / 2 * 2,
     }
-}
-
-// The check of a directory asks the same of a shape that stands: `reading`, whose code both rest on, does not rest on the rules.
-pub(crate) fn is_geometric(g: Geometry) -> bool
-    ensures { result ≡ geometric g }
-{
-    let size = g.size;
-    let number = g.number;
-    if size < LEAST_SIZE_ORDER {
-        return false;
-    }
-    if MOST_SIZE_ORDER < size {
-        return false;
-    }
-    if number < LEAST_NUMBER_ORDER {
-        return false;
-    }
-    if MOST_NUMBER_ORDER < number {
-        return false;
-    }
-    if MOST_ORDER_SUM < size + number {
-        return false;
-    }
-    is_multiple(g.start, size + number)
 }
 
 // "(32 + 8·2^k) bytes, rounded up"

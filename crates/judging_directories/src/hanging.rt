@@ -13,7 +13,7 @@ use words::capabilities::Position;
 use words::numbers::Slot;
 use words::sizes::{HEADER_SIZE, POSITION_SIZE, SLOT_COUNT_U32};
 
-// Position i of the directory whose slots are the part.
+// Position i of the directory whose slots are the part. The bound on i stands at three readers: it keeps a sum from wrapping, and is no type.
 fn position_in(part: &[u8], i: u32) -> Position
     requires { i ≤ 255 }
     ensures { result ≡ position_of part.now (header_size + position_size * i) }
@@ -44,6 +44,7 @@ fn holds_this(part: &[u8], i: u32, d: Slot) -> bool
     is_child_at(d, position_in(part, i))
 }
 
+// Labelled loops, left at the first one found: document 01 names the form for this search.
 pub(crate) fn has_child_directory(s: &[u8], d: Slot) -> bool
     ensures { result ≡ has_child_directory (read s.now) d }
 {
@@ -59,7 +60,7 @@ pub(crate) fn has_child_directory(s: &[u8], d: Slot) -> bool
     found
 }
 
-// "A directory deleted while it hangs under another" is the slip that this search keeps out: it passes every directory.
+// "A directory deleted while it hangs under another" is the slip that this search keeps out: it passes every directory, by labelled loops too.
 pub(crate) fn hangs_somewhere(s: &[u8], d: Slot) -> bool
     ensures { result ≡ hangs_somewhere (read s.now) d }
 {

@@ -13,7 +13,7 @@ use words::capabilities::{Kind, Span, Stretch};
 use words::numbers::{CapabilityNumber, Slot};
 use words::refusals::Refusal;
 
-// The kind, then FLAG; `kind` makes of a right's kind what the call asks for.
+// The bound on a flag's bit is a clause here and at `has_flag`: a receive adds its option to a bit. The kind, then FLAG; `kind` makes of a right's kind what the call asks for.
 fn argument<A: Drop, F: FnOnce(Kind) -> Result<A, Refusal>>(
     s: &[u8],
     t: Slot,

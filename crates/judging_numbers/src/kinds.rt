@@ -1,5 +1,5 @@
 // TYPE, "other kind": what a right of the kind asked for gives, and the refusal of every other. The kind is classified here, so that
-// a lookup takes what it gives by `?`.
+// a lookup takes what it gives by `?`: a function for each rule of that name, which differ in the arm that they let pass.
 ghost use Rattle.std.specs.Prelude.{◌≡◌};
 ghost use Rattle.rules.specs.Calls.{as_directory_object};
 ghost use Rattle.rules.specs.Numbers.{as_directory, as_endpoint, as_function, as_memory, as_process, as_table};

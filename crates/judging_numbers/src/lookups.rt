@@ -13,7 +13,7 @@ use words::numbers::{
 };
 use words::refusals::Refusal;
 
-// Bit i of x is set.
+// Bit i of x is set. The bit is a number and no type with its bound: a receive adds its option to one.
 pub fn has_flag(x: u32, i: u32) -> bool
     requires { i < 32 }
     ensures { result ≡ has x i }

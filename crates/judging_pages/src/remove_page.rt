@@ -1,4 +1,5 @@
-// 9 remove page: P1 directory REM; P2 position. "PGT_ADDR, range, PGT_MAP unless a page .. is there".
+// 9 remove page: P1 directory REM; P2 position. "PGT_ADDR, range, PGT_MAP unless a page .. is there". Destruct
+// goes the same way to another flag and test: each is its rule, `remove_page` and `destruct`, line by line.
 ghost use Rattle.std.specs.Prelude.{◌≡◌};
 ghost use Rattle.state.specs.Read.{read};
 ghost use Rattle.rules.specs.Calls.{remove_page};

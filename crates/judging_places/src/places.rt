@@ -1,4 +1,5 @@
-// A place to fill, and a place whose right is used: RANGE first, then what the use asks.
+// A place to fill, and a place whose right is used: RANGE first, then what the use asks. Table and entry stand apart and in no `Spot`, as each
+// rule has them (`to_fill st t e`); a `Spot` is a place that a rule has found.
 ghost use Rattle.std.specs.Prelude.{◌≡◌};
 ghost use Rattle.state.specs.Read.{read};
 ghost use Rattle.rules.specs.Places.{frozen_at, thawed_at, to_fill, used_at};
@@ -47,7 +48,7 @@ pub fn thawed_at(s: &[u8], t: Slot, e: u32) -> Result<Capability, Refusal>
     Ok(c)
 }
 
-// RANGE, NULL, FROZEN, where the last is given for what is "not frozen": how a deletion and a removal begin.
+// RANGE, NULL, FROZEN, where the last is given for what is "not frozen": how a deletion and a removal begin. It and `thawed_at` are a rule each.
 pub fn frozen_at(s: &[u8], t: Slot, e: u32) -> Result<Capability, Refusal>
     ensures { result ≡ frozen_at (read s.now) t e }
 {

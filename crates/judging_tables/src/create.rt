@@ -16,7 +16,7 @@ use words::numbers::{Count, Slot};
 use words::refusals::Refusal;
 use words::sizes::{ENTRY_SIZE_U32, MOST_ENTRIES, slots_for};
 
-// "table of 1..64 entries"
+// "table of 1..64 entries": two comparisons, which the check makes of a table that stands.
 fn entries_ok(n: Count) -> bool
     ensures { result ≡ (leb 1 n.0 & leb n.0 most_entries) }
 {

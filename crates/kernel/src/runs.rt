@@ -40,6 +40,7 @@ pub fn kernel_run(s: &mut [u8], script: &[u32], answers: &mut [i32]) -> i32
     if answers.len() < n {
         return TOO_FEW_LENT;
     }
+    // by places: an event is five words of the script and one answer, and the contract tells both by the event's number
     for i in 0..n {
         let at = EVENT_WORDS * i;
         answers[i] = happen(

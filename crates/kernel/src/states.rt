@@ -28,7 +28,7 @@ pub fn kernel_tick(s: &mut [u8]) -> i32
         return refusal_number(Refusal::BadState);
     }
     let c = clock(s);
-    store_clock(s, std::num::wrapping_add_u32(c, 1));
+    store_clock(s, c.wrapping_add(1));
     0
 }
 

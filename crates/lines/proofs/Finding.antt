@@ -8,7 +8,6 @@ use native.Mathlib.Omega.{arith}
 use lib.ListN.{drop, drop_of_length-le, get_or, length, length-drop, take}
 use lib.Seq.{drop-drop, take-nil}
 use borrow.Author.Tests.{not-true}
-use Rattle.words.specs.Tests.{choose}
 use Rattle.lines.proofs.Runs.{run_ends, run_within}
 use Rattle.lines.specs.Names.{Span}
 use Rattle.std.specs.List.{prefix_len}
@@ -69,19 +68,6 @@ front (b ∷ bs) e = go (goes_on bs) refl (front bs)
         → words_of (b ∷ bs) ≡ take (prefix_len solid (b ∷ bs)) (b ∷ bs) ∷ words_of (drop (prefix_len solid (b ∷ bs)) (b ∷ bs))
     go true q ih = words_on b bs (solid_not b e) q ∙ rw (ih q, prefix_on b bs solid e)
     go false q ih = words_last b bs (solid_not b e) q ∙ rw (prefix_on b bs solid e, prefix_none bs q)
-
--- ---- word 0 is empty only where there is no word
-pub first_none : (l : List ℕ) → length (get_or (words_of l) 0 []) ≡ 0 → length (words_of l) ≡ 0
-unfolding words_of grown
-first_none [] h = refl
-first_none (b ∷ bs) h = go (blank b) (goes_on bs) (words_of bs) (first_none bs) h
-  where
-    go : (z y : Bool) (ws : List (List ℕ)) → (length (get_or ws 0 []) ≡ 0 → length ws ≡ 0)
-        → length (get_or (choose z ws (choose y (grown b ws) ((b ∷ []) ∷ ws))) 0 []) ≡ 0 → length (choose z ws (choose y (grown b ws) ((b ∷ []) ∷ ws))) ≡ 0
-    go true y ws ih h = ih h
-    go false true [] ih h = refl
-    go false true (w ∷ ws) ih h = absurd (omega arith)
-    go false false ws ih h = absurd (omega arith)
 
 filled : (l : List ℕ) → goes_on l ≡ true → 0 < prefix_len solid l
 unfolding goes_on

@@ -1,5 +1,5 @@
 -- Where the words of a line stand: "Words of a line stand apart by spaces or tabs."
-use Rattle.std.specs.Prelude.{Bool, true, false, not, List, ℕ, ◌+◌, min, eqb, drop, length}
+use Rattle.std.specs.Prelude.{Bool, not, List, ℕ, ◌+◌, min, eqb, drop, length}
 use Rattle.std.specs.List.{prefix_len}
 use Rattle.words.specs.Tests.{◌or◌}
 use Rattle.lines.specs.Names.{Span}
@@ -11,11 +11,6 @@ blank b = eqb b 32 or eqb b 9
 -- a byte of a word
 abbrev pub solid : ℕ → Bool
 solid b = not (blank b)
-
--- the two sorts of run that make up a line
-abbrev pub passing : Bool → ℕ → Bool
-passing true = blank
-passing false = solid
 
 -- the first index at or after `at` whose byte does not pass, or the length
 unfoldable pub past_run : (ℕ → Bool) → List ℕ → ℕ → ℕ

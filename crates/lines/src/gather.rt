@@ -5,7 +5,7 @@ ghost use Rattle.lines.specs.Gather.{gathered, stored};
 // "Lines of more than 1,024 bytes are refused": how long a line may be, and the length that stands for any longer one.
 pub const LINE_LENGTH: usize = 1024;
 
-// The clause `value` holds it, so it stays a length and no kind of its own.
+// `gathered` of the specs gives 1,025 for every longer line, so it stays a length and no kind of its own.
 const LONGER: usize = LINE_LENGTH + 1;
 
 // The byte after the `length` bytes that the buffer has of the line: how many it has then, 1,025 standing for any more than 1,024;

@@ -5,6 +5,7 @@
 pub mod counts;
 mod forms;
 pub mod gather;
+mod line_words;
 pub mod numbers;
 mod operands;
 pub mod requests;

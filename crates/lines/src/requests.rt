@@ -1,10 +1,9 @@
 // What a line asks for, or the first fault in it.
-ghost use Rattle.std.specs.Prelude.{◌≡◌, length};
-ghost use Rattle.lines.specs.Words.{words_of};
+ghost use Rattle.std.specs.Prelude.{◌≡◌};
 ghost use Rattle.lines.specs.Requests.{asked_by, name_in, request_from, request_of, unreturned};
 
-use crate::forms::{call_in, formed, tick_in};
-use crate::split::{word, word_count};
+use crate::line_words::LineWords;
+use crate::split::word;
 
 // What is wrong in a line. Words are numbered from 1; Count has how many there are.
 #[derive(Clone, Copy)]
@@ -51,36 +50,40 @@ fn without_return(line: &[u8]) -> &[u8]
     }
 }
 
-// By the first word of the n: a command, or a call, which begins with a digit.
-#[tactic(auto, using(crate::proofs::Spelling::spelling), unfolding(crate::specs::Requests::asked_by))]
-fn asked_by(first: &[u8], text: &[u8], n: usize) -> Result<Request, Fault>
-    requires { n ≡ length (words_of text.now) }
-    ensures { result ≡ asked_by first.now (words_of text.now) }
-{
-    match first {
-        b"boot" => formed(1, n, Request::Boot, Fault::AfterBoot),
-        b"show" => formed(1, n, Request::Show, Fault::AfterShow),
-        b"save" => formed(2, n, Request::Save, Fault::SaveForm),
-        b"load" => formed(2, n, Request::Load, Fault::LoadForm),
-        b"tick" => tick_in(text, n),
-        [b'0'..=b'9', ..] => call_in(text, n),
-        _ => Err(Fault::Start),
+impl LineWords<'_> {
+    // By the first word: a command, or a call, which begins with a digit.
+    #[tactic(auto, using(crate::proofs::Spelling::spelling), unfolding(crate::specs::Requests::asked_by))]
+    fn asked_by(&self, first: &[u8]) -> Result<Request, Fault>
+        ensures { result ≡ asked_by first.now self.now }
+    {
+        match first {
+            b"boot" => self.formed(1, Request::Boot, Fault::AfterBoot),
+            b"show" => self.formed(1, Request::Show, Fault::AfterShow),
+            b"save" => self.formed(2, Request::Save, Fault::SaveForm),
+            b"load" => self.formed(2, Request::Load, Fault::LoadForm),
+            b"tick" => self.tick(),
+            [b'0'..=b'9', ..] => self.call(),
+            _ => Err(Fault::Start),
+        }
     }
-}
 
-fn words_ask(text: &[u8]) -> Result<Request, Fault>
-    ensures { result ≡ request_from (words_of text.now) }
-{
-    match word(text, 0) {
-        [] | [b'#', ..] => Ok(Request::Nothing),
-        first => asked_by(first, text, word_count(text)),
+    fn request(&self) -> Result<Request, Fault>
+        ensures { result ≡ request_from self.now }
+    {
+        if self.count() == 0 {
+            return Ok(Request::Nothing);
+        }
+        match self.word(0) {
+            [b'#', ..] => Ok(Request::Nothing),
+            first => self.asked_by(first),
+        }
     }
 }
 
 pub fn request_in(line: &[u8]) -> Result<Request, Fault>
     ensures { result ≡ request_of line.now }
 {
-    words_ask(without_return(line))
+    LineWords::of(without_return(line)).request()
 }
 
 // The file that a line names after `save` or `load`; empty where it has one word or none.

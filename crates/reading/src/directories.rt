@@ -14,14 +14,14 @@ use words::sizes::{
     HEADER_SIZE, HEADER_SIZE_U32, MOST_NUMBER_ORDER, POSITION_SIZE, POSITION_SIZE_U32, slots_for,
 };
 
-// "2^k entries, k from 1 to 8"; none for a number order above 8
+// "2^k entries, k from 1 to 8"; 0 for a number order above 8, as `positions_for` of the layout
 pub fn positions_for(k: u32) -> u32
     ensures { result ≡ positions_for k }
 {
     if k <= MOST_NUMBER_ORDER { 1 << k } else { 0 }
 }
 
-// How many positions the directory in a slot has; none where there is no directory.
+// How many positions the directory in a slot has; 0 where there is no directory, as `positions_in` of the state.
 pub fn positions_in(s: &[u8], d: Slot) -> u32
     ensures { result ≡ positions_in (read s.now) d }
 {
@@ -56,7 +56,7 @@ pub fn position_at(s: &[u8], d: Slot, i: u32) -> Position
     position_of(part, HEADER_SIZE + POSITION_SIZE * (i as usize))
 }
 
-// The shape of the directory in a slot; all 0, a shape that no directory has, where there is none. The header, 32 bytes, lies in the
+// The shape of the directory in a slot; all 0 where there is none, as `shape_at` of the state. The header, 32 bytes, lies in the
 // directory's first slot: that slot is the part handed on.
 pub fn shape_at(s: &[u8], d: Slot) -> Geometry
     ensures { result ≡ shape_at (read s.now) d }

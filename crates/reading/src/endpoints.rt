@@ -11,7 +11,7 @@ use words::layout::{BOOT_MARK_AT, ENDPOINT_TAG};
 use words::numbers::{Count, Slot};
 use words::sizes::SLOT_SIZE;
 
-// A word of the endpoint in a slot; 0 where there is no endpoint.
+// A word of the endpoint in a slot; 0 where there is no endpoint, as `count_of` and `boot_mark` of the state.
 fn endpoint_word(s: &[u8], e: Slot, at: usize) -> u32
     requires { at ≤ slot_size }
     ensures { result ≡ if_tagged s.now e.0 5 (word_at s.now (slot_size * e.0 + at)) 0 }

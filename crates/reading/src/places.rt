@@ -58,7 +58,7 @@ fn kind_of(p: &[u8], at: usize) -> Option<Kind>
     }
 }
 
-// The entry that starts at a byte of a part.
+// The entry that starts at a byte of a part. The bound on the byte stands at three readers: it keeps a sum from wrapping, and is no type.
 pub fn place_of(p: &[u8], at: usize) -> Place
     requires { at ≤ 65000 }
     ensures { result ≡ place_of p.now at }

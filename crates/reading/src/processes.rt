@@ -12,7 +12,7 @@ use words::layout::{DIRECTORY_NAMED_AT, PROCESS_TAG};
 use words::numbers::Slot;
 use words::sizes::SLOT_SIZE;
 
-// The slot that a byte of the process in a slot names; slot 0 where there is no process.
+// The slot that a byte of the process in a slot names; slot 0 where there is no process, as `table_named` and `directory_named` of the state.
 fn named(s: &[u8], p: Slot, at: usize) -> Slot
     requires { at ≤ slot_size }
     ensures { result ≡ if_tagged s.now p.0 4 (slot (get_or s.now (slot_size * p.0 + at) 0)) (slot 0) }

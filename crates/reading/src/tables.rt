@@ -12,7 +12,7 @@ use words::layout::TABLE_TAG;
 use words::numbers::Slot;
 use words::sizes::{ENTRY_SIZE, ENTRY_SIZE_U32, slots_for};
 
-// How many entries the table in a slot has; none where there is no table.
+// How many entries the table in a slot has; 0 where there is no table, as `entries_in` of the state.
 pub fn entries_in(s: &[u8], t: Slot) -> u32
     ensures { result ≡ entries_in (read s.now) t }
 {
@@ -31,7 +31,7 @@ pub fn table_slots(s: &[u8], t: Slot, entries: u32) -> &[u8]
     slots_from(s, t, slots_for(ENTRY_SIZE_U32 * entries) as u16)
 }
 
-// An entry of the table in a slot; blank past its entries.
+// An entry of the table in a slot; blank past its entries. Table and entry stand apart, as `place_at` of the state has them.
 pub fn place_at(s: &[u8], t: Slot, e: u32) -> Place
     ensures { result ≡ place_at (read s.now) t e }
 {

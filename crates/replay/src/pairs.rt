@@ -13,7 +13,7 @@ const COLUMNS: usize = 21;
 #[derive(Clone, Copy)]
 pub struct Pairs([[bool; COLUMNS]; ROWS]);
 
-// The row of the call whose first word is w0, by N[5:0].
+// The row of the call whose first word is w0, by N[5:0]: `call_number` of `words` asks for all four words.
 fn row(w0: u32) -> usize
     ensures { result < ROWS }
 {

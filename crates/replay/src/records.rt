@@ -1,15 +1,7 @@
 // What a recorded line says was done, and what came of it.
 use crate::fields::{Answer, answer_in, number_of};
 use input::fields::Fields;
-
-#[derive(Clone, Copy)]
-pub struct Call {
-    pub caller: u32,
-    pub w0: u32,
-    pub w1: u32,
-    pub w2: u32,
-    pub w3: u32,
-}
+use lines::requests::Call;
 
 #[derive(Clone, Copy)]
 pub enum Step {
@@ -20,7 +12,7 @@ pub enum Step {
     Hash(u64),
 }
 
-/// A line whose first byte is no step's.
+// A line whose first byte is no step's.
 #[derive(Clone, Copy)]
 pub struct Unreadable;
 

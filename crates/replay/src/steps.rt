@@ -1,10 +1,11 @@
 // The recorded steps made again on one state, and what has been met on the way.
 use crate::fields::Answer;
 use crate::pairs::{Pairs, column};
-use crate::records::{Call, Step, step_in};
+use crate::records::{Step, step_in};
 use crate::tally::Tally;
 use kernel::calls::kernel_call;
 use kernel::states::{kernel_boot, kernel_tick};
+use lines::requests::Call;
 use words::sizes::STATE_LENGTH;
 
 // A word begins before this.
@@ -19,8 +20,8 @@ pub struct Replay {
 
 fn is_as_recorded(given: i32, recorded: Answer) -> bool {
     match recorded {
-        Answer::Count(n) => u32::try_from(given) == Ok(n),
-        Answer::Refusal(k) => column(given) == k.wrapping_add(1) as usize,
+        Ok(n) => u32::try_from(given) == Ok(n),
+        Err(k) => column(given) == k.wrapping_add(1) as usize,
     }
 }
 

@@ -35,6 +35,7 @@ pub fn say_row(rt: &impl Print, rows: &[u8], k: u32, numbers: [u64; 4]) -> Resul
     let mut parts = rows.split_inclusive(|&b| matches!(b, b'\n' | BAR));
     let picked = parts.nth(k as usize).unwrap_or(&[]);
     let mut row = Row::new();
+    // counted: only some bytes are places
     let mut place = 0;
     for &byte in picked {
         put_filled(rt, &mut row, byte, numbers[place])?;

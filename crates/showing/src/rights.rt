@@ -6,7 +6,7 @@ use words::capabilities::{Capability, Frost, Kind, Origin};
 use words::numbers::Slot;
 use words::sizes::{PLACE_COUNT_U32, STATE_LENGTH};
 
-// A row of the kinds, and the numbers of its places.
+// A row of the kinds, by its number in the text of say_kind, and the numbers of its places.
 #[derive(Clone, Copy)]
 struct Naming {
     row: u32,

@@ -78,6 +78,3 @@ refusal_number κs a x y v w p q = (cc, refl)
 
 pub slots_for : Determined contracts.sizes.slots_for.ended words.sizes.slots_for.Reads.Learnt
 slots_for κs a x y v w p q = (cc, refl)
-
-pub is_multiple : Determined contracts.orders.is_multiple.ended words.orders.is_multiple.Reads.Learnt
-is_multiple κs a x y v w p q = (cc, refl)

@@ -1,4 +1,4 @@
-// The twenty calls by their numbers, in the order of document 01's table.
+// The twenty calls by their numbers, in the order of document 01's table: numbers and no enum, since C passes them in a word.
 pub const CREATE_TABLE: u32 = 1;
 
 pub const DELETE_TABLE: u32 = 2;

@@ -26,7 +26,8 @@ pub enum Kind {
     },
 }
 
-// The frozen mark, with its stamp. No Option, which it has the shape of: a right that has settled (document 02, #104) is a third case.
+// The frozen mark, with its stamp. No Option, though it has the shape: a mark may settle (request #104 of document 02), and an Option has no
+// third case.
 #[derive(Clone, Copy)]
 pub enum Frost {
     Thawed,

@@ -11,8 +11,6 @@ pub const HALF: u32 = 0x10000;
 
 pub const BYTE: u32 = 0x100;
 
-pub const THREE_BYTES: u32 = HALF * BYTE;
-
 pub const CALL_NUMBERS: u32 = 64;
 
 // The words of a call; nc is N:C.
@@ -62,7 +60,8 @@ pub fn q0(w: Words) -> u32
     w.p1 % BYTE
 }
 
-// A capability number in C, in a word's high half, in its low half, and in a whole word.
+// A capability number in C, in a word's high half, in its low half, and in a whole word; then a whole word as an address and as a count. No
+// `From<u32>`: a conversion that any number takes would let one be passed for another ("stay apart"), and would not say which half is meant.
 pub fn number_in_c(w: Words) -> CapabilityNumber
     ensures { result ≡ capability_number (C w) }
 {

@@ -1,4 +1,5 @@
-// The parts of a kind as plain numbers, 0 where the kind has none: what a table entry stores of it.
+// The parts of a kind as plain numbers, 0 where the kind has none, as `object_of`, `low_of` and `high_of` of the rules: what a table entry
+// stores of it.
 ghost use Rattle.std.specs.Prelude.{◌≡◌};
 ghost use Rattle.words.specs.Rights.{kind_no, object_of, low_of, high_of, all_flags, root_right};
 

@@ -8,7 +8,7 @@ pub const NOTE_ARGUMENTS: usize = NOTES + 1;
 
 pub const NOTE_SIZE: usize = 4;
 
-// What a tag says stands in the slot.
+// What a tag says stands in the slot: numbers and no enum, as docs/LAYOUT.md has them in the bytes and `tag_of` in the contracts.
 pub const FREE_TAG: u8 = 0;
 
 pub const LATER_TAG: u8 = 1;

@@ -10,6 +10,5 @@ pub mod grants;
 pub mod kinds;
 pub mod layout;
 pub mod numbers;
-pub mod orders;
 pub mod refusals;
 pub mod sizes;

@@ -25,7 +25,7 @@ pub enum Refusal {
     BadState,
 }
 
-// The number that a caller is given.
+// The number that a caller is given: the one place where a refusal becomes what C reads. docs/PROOFS.md names the function.
 pub fn refusal_number(a: Refusal) -> i32
     ensures { result ≡ number a }
 {

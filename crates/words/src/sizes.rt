@@ -27,11 +27,6 @@ pub const SLOT_SIZE_U32: u32 = SLOT_SIZE as u32;
 
 pub const SLOT_SIZE_U64: u64 = SLOT_SIZE as u64;
 
-// What is added before a division by the slot's size, so that bytes are "rounded up to slots".
-pub const SLOT_REST_U16: u16 = SLOT_SIZE_U16 - 1;
-
-pub const SLOT_REST_U32: u32 = SLOT_SIZE_U32 - 1;
-
 // "table of 1..64 entries, 32 bytes each"
 pub const ENTRY_SIZE: usize = 32;
 

@@ -1,4 +1,5 @@
-// The count of an endpoint. No writer here touches the boot mark behind it: "a mark that no call sets".
+// The count of an endpoint, one store like those of processes.rt, each with its own contract. No writer here touches the boot mark behind it:
+// "a mark that no call sets".
 ghost use Rattle.std.specs.Prelude.{◌≡◌, ◌+◌, ◌*◌, ◌≤◌, length};
 ghost use Rattle.words.specs.Sizes.{slot_size};
 ghost use Rattle.state.specs.State.{splice};

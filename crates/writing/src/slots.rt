@@ -20,7 +20,7 @@ fn fill(part: &mut [u8], first: [u32; FIRST_WORDS])
     store_words(part, 0, &first[..]);
 }
 
-// The n slots from k on.
+// The n slots from k on: slot and number apart, as the notes' writers and the layout's definitions have them.
 pub fn fill_slots(s: &mut [u8], k: Slot, n: u32, first: [u32; FIRST_WORDS])
     requires { (slot_size * k.0 + slot_size * n ≤ length s.old) × (1 ≤ n) }
     ensures { s.new ≡ splice (slot_size * k.0) (words_bytes first ++ replicate (slot_size * n - 12) 0) s.old }

@@ -52,7 +52,7 @@ fn place_words(p: Place) -> [u32; ENTRY_WORDS]
     }
 }
 
-// Entry e of the table whose first slot is t.
+// Entry e of the table whose first slot is t, apart and in no `Spot`, as the layout's definitions have them.
 pub fn store_place(s: &mut [u8], t: Slot, e: u32, p: Place)
     requires { slot_size * t.0 + entry_size * e + entry_size ≤ length s.old }
     ensures { s.new ≡ splice (slot_size * t.0 + entry_size * e) (place_bytes p) s.old }

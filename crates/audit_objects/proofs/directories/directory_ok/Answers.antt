@@ -12,10 +12,10 @@ use Rattle.audit_objects.proofs.Asked.{ok_directory, small_size, directory_room,
 use Rattle.audit_objects.specs.Names.{Geometry}
 use Rattle.audit_objects.proofs.directories.directory_ok.Goals as goal
 
-pub returns-then-not-geometry_ok : goal.returns-then-not-geometry_ok
-returns-then-not-geometry_ok c =
+pub returns-then-not-is_geometric : goal.returns-then-not-is_geometric
+returns-then-not-is_geometric c =
     sym (ok_directory (read c.args.s.now) c.args.k c.requires.2
-    ∙ and_no _ _ (sym (ap geometric c.shape_at-g.ensures) ∙ sym c.geometry_ok.ensures ∙ c.if-not-geometry_ok.true))
+    ∙ and_no _ _ (sym (ap geometric c.shape_at-g.ensures) ∙ sym c.is_geometric.ensures ∙ c.if-not-is_geometric.true))
 
 pub directory_slots-requires : goal.directory_slots-requires
 directory_slots-requires c = omega (arith, c.positions_in-n.ensures, few_positions c.args.s.now c.args.k (search rules))
@@ -28,7 +28,7 @@ overflow_cast-n c =
 pub positions_ok-requires : goal.positions_ok-requires
 positions_ok-requires c =
     let shape = c.shape_at-g.ensures in
-    let passed = sym (ap geometric shape) ∙ sym c.geometry_ok.ensures ∙ c.if-not-geometry_ok.false in
+    let passed = sym (ap geometric shape) ∙ sym c.is_geometric.ensures ∙ c.if-not-is_geometric.false in
     let size = small_size _ passed in
     let room = directory_room (read c.args.s.now) c.args.k (apart_laid _ c.requires.1) (search rules) c.requires.2 in (
       rw c.directory_slots.ensures (simp (length-take, length-drop) (omega (arith, c.positions_in-n.ensures))),
@@ -38,7 +38,7 @@ positions_ok-requires c =
 pub returns : goal.returns
 returns c =
     let shape = c.shape_at-g.ensures in
-    let passed = sym (ap geometric shape) ∙ sym c.geometry_ok.ensures ∙ c.if-not-geometry_ok.false in
+    let passed = sym (ap geometric shape) ∙ sym c.is_geometric.ensures ∙ c.if-not-is_geometric.false in
     let small = c.type_inv.s in
     c.positions_ok.ensures
     ∙ rw (c.directory_slots.ensures, shape, c.positions_in-n.ensures)

@@ -16,4 +16,4 @@ pub returns : goal.returns
 unfolding tick_outcome
 returns c =
     let e : sound c.args.s.now ≡ true = sym c.well_formed-2.ensures ∙ c.if-not-well_formed.false in
-    rw (e, c.store_clock.ensures, c.wrapping_add_u32.ensures.value, c.clock-c.ensures, tick_written c.args.s.now e)
+    rw (e, c.store_clock.ensures, c.clock-c.ensures, tick_written c.args.s.now e)

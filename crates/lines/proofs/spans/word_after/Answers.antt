@@ -1,16 +1,16 @@
 -- `lines::spans::word_after` meets its contract.
 use Prim.Native.Nat.{◌≤◌}
 use lib.ListN.{length}
+use mathlib.Core.Path.{◌≡◌}
+use Rattle.std.proofs.Common.{rules}
 use Rattle.lines.proofs.Runs.{run_ahead, run_ends}
-use Rattle.lines.specs.Spans.{blank, solid}
+use Rattle.lines.specs.Spans.{blank, past_run, solid}
 use Rattle.lines.proofs.spans.word_after.Goals as goal
 
-pub returns : goal.returns
-returns c =
-    let a = c.args in
-    let f = c.past_run-from in
-    let t = c.past_run-to in
-    let in_it : f.result ≤ length a.line.now = rw f.ensures (run_ends blank a.line.now a.at) in record {
-      value = rw (t.ensures, f.ensures);
-      inside = (rw t.ensures (run_ahead solid a.line.now f.result in_it), rw t.ensures (run_ends solid a.line.now f.result));
-    }
+pub returns-clause-inside : goal.returns-clause-inside
+returns-clause-inside c =
+    let line = c.args.line.now in
+    let from : c.past_run-from.result ≡ past_run blank line c.args.at = search rules in
+    let to : c.past_run-to.result ≡ past_run solid line c.past_run-from.result = search rules in
+    let in_it : c.past_run-from.result ≤ length line = rw from (run_ends blank line c.args.at) in
+    (rw to (run_ahead solid line c.past_run-from.result in_it), rw to (run_ends solid line c.past_run-from.result))

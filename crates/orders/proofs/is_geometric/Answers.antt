@@ -1,9 +1,9 @@
--- `audit_objects::directories::geometry_ok` meets its contract: the tests are those of `geometric`, in their order.
+-- `orders::is_geometric` meets its contract: the tests are those of `geometric`, in their order.
 use Rattle.std.proofs.lemmas.Grind.{common_steps}
 use native.Mathlib.Omega.{arith}
 use Rattle.words.specs.Tests.{◌&◌}
 use Rattle.rules.specs.WellFormed.{geometric}
-use Rattle.audit_objects.proofs.directories.geometry_ok.Goals as goal
+use Rattle.orders.proofs.is_geometric.Goals as goal
 
 pub returns-then-g-le-MOST_ORDER_SUM : goal.returns-then-g-le-MOST_ORDER_SUM
 unfolding geometric ◌&◌
