@@ -22,9 +22,29 @@ const ANSWERS: [Answer; 6] = [
     Answer::BadEnd,
 ];
 
-impl Answer {
-    fn number(self) -> i32 {
-        match self {
+// A number that reading does not answer.
+#[derive(Clone, Copy)]
+pub struct NoAnswer;
+
+impl TryFrom<i32> for Answer {
+    type Error = NoAnswer;
+
+    fn try_from(number: i32) -> std::result::Result<Answer, NoAnswer> {
+        match number {
+            0 => Ok(Answer::Taken),
+            -19 => Ok(Answer::NoState),
+            -30 => Ok(Answer::BadLine),
+            -31 => Ok(Answer::BadSum),
+            -32 => Ok(Answer::BadAddress),
+            -33 => Ok(Answer::BadEnd),
+            _ => Err(NoAnswer),
+        }
+    }
+}
+
+impl From<Answer> for i32 {
+    fn from(answer: Answer) -> i32 {
+        match answer {
             Answer::Taken => 0,
             Answer::NoState => -19,
             Answer::BadLine => -30,
@@ -33,26 +53,15 @@ impl Answer {
             Answer::BadEnd => -33,
         }
     }
+}
 
-    // The answer that has a number; reading has no others. Beside `number`, so that the two are read together.
-    pub(crate) fn of(number: i32) -> Option<Answer> {
-        match number {
-            0 => Some(Answer::Taken),
-            -19 => Some(Answer::NoState),
-            -30 => Some(Answer::BadLine),
-            -31 => Some(Answer::BadSum),
-            -32 => Some(Answer::BadAddress),
-            -33 => Some(Answer::BadEnd),
-            _ => None,
-        }
-    }
-
+impl Answer {
     // 0, or a refusal behind its sign.
     pub(crate) fn in_word(word: &[u8]) -> Option<Answer> {
         match word {
             [b'-', digits @ ..] => match value_of(digits)? {
                 0 => None,
-                k => Answer::of(i32::try_from(k).ok()?.wrapping_neg()),
+                k => Answer::try_from(i32::try_from(k).ok()?.wrapping_neg()).ok(),
             },
             _ => match value_of(word)? {
                 0 => Some(Answer::Taken),
@@ -64,7 +73,7 @@ impl Answer {
 
 impl fmt::Display for Answer {
     fn fmt<W: fmt::Write>(&self, f: &mut fmt::Formatter<W>) -> fmt::Result {
-        let number = self.number();
+        let number = i32::from(*self);
         write!(f, "{number}")
     }
 }

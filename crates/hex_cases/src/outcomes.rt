@@ -47,7 +47,7 @@ impl Outcome {
     // What a text gives.
     fn of(rt: &impl Print, text: &[u8]) -> Result<Self> {
         let mut s = [HELD; STATE_LENGTH];
-        let answer = Answer::of(kernel_read_hex(text, &mut s));
+        let answer = Answer::try_from(kernel_read_hex(text, &mut s)).ok();
         Ok(Outcome {
             answer,
             taken: kernel_hex_lines(text),
