@@ -48,6 +48,14 @@ if ! ./libkernel >"$made/rt.log" 2>&1; then
     exit 1
 fi
 
+# What the header says of it.
+needed=$(nm -u "$archive" | awk '$1 == "U" { print $2 }' | sort -u | tr '\n' ' ')
+if [ "$needed" != "memset " ]; then
+    echo "examples: the archive needs more of the C library than memset, or other than it: $needed" >&2
+    exit 1
+fi
+echo "the archive: of the C library it needs memset alone"
+
 for example in grant firmware; do
     build_c "$example"
     build_rust "$example"

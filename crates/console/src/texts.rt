@@ -104,7 +104,9 @@ fn save_text(
 }
 
 // The text's array is lent whole to another function: where an array is lent as a slice beside its making, its length is counted out
-// byte by byte in the proof.
+// byte by byte in the proof. `save` and `load` are never inlined: within the function that does each line, their arrays would be part of
+// its frame, and every line, a remark too, would pay for the room.
+#[inline(never)]
 pub(crate) fn save(
     rt: &(impl Files + Print),
     s: &[u8; STATE_LENGTH],
@@ -122,6 +124,7 @@ fn load_text(rt: &impl Print, s: &mut [u8; STATE_LENGTH], text: &[u8], reply: Re
     reply.say_outcome(rt, outcome, line)
 }
 
+#[inline(never)]
 pub(crate) fn load(
     rt: &(impl Files + Print),
     s: &mut [u8; STATE_LENGTH],

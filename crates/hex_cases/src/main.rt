@@ -11,7 +11,7 @@ mod texts;
 
 use crate::answers::Counts;
 use crate::outcomes::{Outcome, boot};
-use crate::records::{Case, case_in};
+use crate::records::{Case, case_in, says_nothing};
 use input::stop::Stop;
 use input::{Line, each_line};
 use intel_hex::marks::TEXT_LENGTH;
@@ -35,20 +35,17 @@ fn judge(
     Err(Stop::Differs)
 }
 
-// A last line that nothing ends is not judged.
-fn take_line(
+// Never inlined: its frame has room for the texts of a case, for which a line that says nothing would pay too.
+#[inline(never)]
+fn judge_line(
     rt: &impl Print,
     written: &[u8; TEXT_LENGTH],
     counts: &mut Counts,
     line: Line,
 ) -> Result<(), Stop> {
-    if !line.is_ended {
-        return Ok(());
-    }
     let number = line.number;
     match case_in(line) {
-        Ok(None) => Ok(()),
-        Ok(Some(c)) => judge(rt, written, counts, number, c),
+        Ok(c) => judge(rt, written, counts, number, c),
         Err(_) => {
             println!(rt; "line {number} is no case")?;
             Err(Stop::Differs)
@@ -70,7 +67,11 @@ fn main(rt: HostRuntime) -> io::Result<()> {
     }
     let mut counts = Counts::new();
     match each_line(rt.stdin(), |line| {
-        take_line(&rt, &written, &mut counts, line)
+        if says_nothing(line) {
+            Ok(())
+        } else {
+            judge_line(&rt, &written, &mut counts, line)
+        }
     }) {
         Ok(()) => counts.say(&rt),
         Err(Stop::Differs) => Ok(()),

@@ -58,8 +58,21 @@ fn case_of<'a>(answer: &[u8], mut fields: Fields<'a>) -> Option<Case<'a>> {
     })
 }
 
-// A blank line and one that begins with # say nothing; a line that is longer than what is here of it is no case.
-pub(crate) fn case_in<'a>(line: Line<'a>) -> Result<Option<Case<'a>>, Unreadable> {
+// Apart from the test that is made of each line: few lines need it.
+#[inline(never)]
+fn has_no_field(line: &[u8]) -> bool {
+    let mut fields = Fields { line, at: 0 };
+    matches!(fields.word(), [] | [b'#', ..])
+}
+
+// A blank line and one that begins with # say nothing. A last line that nothing ends is not judged.
+pub(crate) fn says_nothing(line: Line) -> bool {
+    let is_remark = matches!(line.bytes, [b'#', ..]) || has_no_field(line.bytes);
+    !line.is_ended || is_remark && !line.is_longer
+}
+
+// A line that is longer than what is here of it is no case.
+pub(crate) fn case_in<'a>(line: Line<'a>) -> Result<Case<'a>, Unreadable> {
     if line.is_longer {
         return Err(Unreadable);
     }
@@ -67,11 +80,6 @@ pub(crate) fn case_in<'a>(line: Line<'a>) -> Result<Option<Case<'a>>, Unreadable
         line: line.bytes,
         at: 0,
     };
-    match fields.word() {
-        [] | [b'#', ..] => Ok(None),
-        answer => match case_of(answer, fields) {
-            Some(c) => Ok(Some(c)),
-            None => Err(Unreadable),
-        },
-    }
+    let answer = fields.word();
+    case_of(answer, fields).ok_or(Unreadable)
 }

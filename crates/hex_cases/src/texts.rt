@@ -26,10 +26,12 @@ impl Text {
         }
     }
 
+    // As one part: byte by byte, each would wait for the length that the one before it left in memory.
     fn put_all(&mut self, bytes: &[u8]) {
-        for &byte in bytes {
-            self.put(byte);
-        }
+        let room = &mut self.bytes[self.length..];
+        let n = bytes.len().min(room.len());
+        room[..n].copy_from_slice(&bytes[..n]);
+        self.length += n;
     }
 
     // The bytes that pairs of digits spell, the high digit first.

@@ -18,7 +18,8 @@ use crate::taking::Course;
 use audit::well_formed;
 use words::sizes::STATE_LENGTH;
 
-// The destination is not written before the check has passed.
+// The destination is not written before the check has passed, and then from the cells again: a copy of the bytes would be a call of
+// memcpy, and the archive needs of the C library memset alone (include/thepharok.h).
 fn read_state(text: &[u8], s: &mut [u8]) -> Result<(), Unread>
     ensures { (record { reply = reply_of result; buffer = s.new }) ≡ read_outcome text.now s.old }
 {
@@ -32,7 +33,7 @@ fn read_state(text: &[u8], s: &mut [u8]) -> Result<(), Unread>
     if !well_formed(&state) {
         return Err(Unread::BadState);
     }
-    s.copy_from_slice(&state);
+    bytes_of(&course.cells, s);
     Ok(())
 }
 

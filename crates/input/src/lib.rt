@@ -42,6 +42,8 @@ impl Progress {
     }
 }
 
+// Never inlined: a function of its own has the buffer and the bytes in registers, in a loop that is gone through for each byte.
+#[inline(never)]
 fn take_bytes<E, F: FnMut(Line) -> Result<(), E>>(
     bytes: &[u8],
     buffer: &mut [u8; LINE_LENGTH],
@@ -56,7 +58,9 @@ fn take_bytes<E, F: FnMut(Line) -> Result<(), E>>(
         match gather(buffer, p.length, byte) {
             Some(length) => p.length = length,
             None => {
-                visit(p.line(buffer, true))?;
+                if 0 < p.length {
+                    visit(p.line(buffer, true))?;
+                }
                 p = Progress {
                     length: 0,
                     number: p.number.wrapping_add(1),
@@ -93,7 +97,8 @@ fn take_all<R: Read, E: From<io::Error>, F: FnMut(Line) -> Result<(), E>>(
     Ok(())
 }
 
-// Calls the function on each line up to the first error. What is read is handed on before more is waited for.
+// Calls the function on each line that has a byte, up to the first error: an empty one says nothing, and is counted and passed over. What is
+// read is handed on before more is waited for.
 pub fn each_line<R: Read + Drop, E: From<io::Error>, F: FnMut(Line) -> Result<(), E> + Drop>(
     mut input: R,
     mut visit: F,

@@ -83,7 +83,12 @@ impl LineWords<'_> {
 pub fn request_in(line: &[u8]) -> Result<Request, Fault>
     ensures { result ≡ request_of line.now }
 {
-    LineWords::of(without_return(line)).request()
+    let text = without_return(line);
+    // a remark first: its words, which may be many, need not be counted
+    match word(text, 0) {
+        [b'#', ..] => Ok(Request::Nothing),
+        _ => LineWords::of(text).request(),
+    }
 }
 
 // The file that a line names after `save` or `load`; empty where it has one word or none.

@@ -21,15 +21,22 @@ pub fn positions_for(k: u32) -> u32
     if k <= MOST_NUMBER_ORDER { 1 << k } else { 0 }
 }
 
-// How many positions the directory in a slot has; 0 where there is no directory, as `positions_in` of the state.
-pub fn positions_in(s: &[u8], d: Slot) -> u32
-    ensures { result ≡ positions_in (read s.now) d }
+fn positions_there(s: &[u8], d: Slot) -> u32
+    ensures { (result ≡ positions_in (read s.now) d) × (result ≤ 256) }
 {
     if tag_byte(s, d) == DIRECTORY_TAG {
         positions_for(argument_byte(s, d) as u32)
     } else {
         0
     }
+}
+
+// How many positions the directory in a slot has; 0 where there is no directory, as `positions_in` of the state. `position_at` goes by
+// the function within, so that what this contract promises is asked for by its theorem in proofs/Tight.antt and by nothing else here.
+pub fn positions_in(s: &[u8], d: Slot) -> u32
+    ensures { result ≡ positions_in (read s.now) d }
+{
+    positions_there(s, d)
 }
 
 // "hands on just its slots": those of a directory with so many positions, "(32 + 8·2^k) bytes, rounded up".
@@ -48,7 +55,7 @@ pub fn directory_slots(s: &[u8], d: Slot, positions: u32) -> &[u8]
 pub fn position_at(s: &[u8], d: Slot, i: u32) -> Position
     ensures { result ≡ position_at (read s.now) d i }
 {
-    let positions = positions_in(s, d);
+    let positions = positions_there(s, d);
     if positions <= i {
         return Position::Empty;
     }

@@ -29,4 +29,4 @@ pub returns : goal.returns
 returns c =
     let b = given (numbers c.read.new.self.cells) in
     let e : sound b ≡ true = rw c.bytes_of.ensures at (sym c.well_formed-2.ensures ∙ c.if-not-well_formed.false) in
-    rw (outcome_of c.args.text.now c.args.s.now (gives b) c.if-s-ne-STATE_LENGTH.false (rw (c.new-course.ensures.cells, c.new-course.ensures.upper) at c.in_ok-read.ensures.text), e, c.copy_from_slice.ensures.after, c.bytes_of.ensures)
+    rw (outcome_of c.args.text.now c.args.s.now (gives b) c.if-s-ne-STATE_LENGTH.false (rw (c.new-course.ensures.cells, c.new-course.ensures.upper) at c.in_ok-read.ensures.text), e, c.bytes_of-2.ensures)
