@@ -49,7 +49,7 @@ if ! ./libkernel >"$made/rt.log" 2>&1; then
 fi
 
 # What the header says of it.
-needed=$(nm -u "$archive" | awk '$1 == "U" { print $2 }' | sort -u | tr '\n' ' ')
+needed=$(nm -u "$archive" | awk 'NF == 2 { print $2 }' | sort -u | tr '\n' ' ')
 if [ "$needed" != "memset " ]; then
     echo "examples: the archive needs more of the C library than memset, or other than it: $needed" >&2
     exit 1

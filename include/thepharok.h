@@ -8,7 +8,7 @@
  * A length counts elements, not bytes: of uint8_t for a state and a text, of uint32_t for words.
  *
  * Stack, in bytes from the caller on, measured (examples/c/stack.c): kernel_read_hex 53,880, kernel_hex_lines 35,032,
- * kernel_write_hex 2,472, kernel_run 1,672, kernel_call 1,600, kernel_tick 1,416, kernel_check 1,400, kernel_boot 40; the others a few words.
+ * kernel_write_hex 2,472, kernel_run 1,672, kernel_call 1,600, kernel_tick 1,416, kernel_check 1,400, kernel_boot 56; the others a few words.
  */
 #ifndef THEPHAROK_H
 #define THEPHAROK_H
