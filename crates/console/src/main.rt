@@ -11,7 +11,7 @@ mod steps;
 mod texts;
 
 use crate::steps::Session;
-use input::each_line;
+use input::each_nonempty_line;
 use std::env::FillError;
 use std::io::Result;
 use std::rt::Env;
@@ -37,5 +37,5 @@ fn main(rt: HostRuntime) -> Result<()> {
             .write_all(b"console: the one argument that it takes is: words\n");
     };
     let mut session = Session::new(in_words);
-    each_line(rt.stdin(), |line| session.take(&rt, line))
+    each_nonempty_line(rt.stdin(), |line| session.take(&rt, line))
 }

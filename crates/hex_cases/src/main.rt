@@ -13,7 +13,7 @@ use crate::answers::Counts;
 use crate::outcomes::{Outcome, boot};
 use crate::records::{Case, case_in, says_nothing};
 use input::stop::Stop;
-use input::{Line, each_line};
+use input::{Line, each_nonempty_line};
 use intel_hex::marks::TEXT_LENGTH;
 use kernel::firmware::kernel_write_hex;
 use std::io;
@@ -66,7 +66,7 @@ fn main(rt: HostRuntime) -> io::Result<()> {
         return println!(rt; "the boot state was not written");
     }
     let mut counts = Counts::new();
-    match each_line(rt.stdin(), |line| {
+    match each_nonempty_line(rt.stdin(), |line| {
         if says_nothing(line) {
             Ok(())
         } else {

@@ -19,6 +19,13 @@ each_line T E F L M N G d H e J f g h i κs a (Ok x) (Ok y) v w p q = ((λ _ _. 
 each_line T E F L M N G d H e J f g h i κs a (Ok x) (Err y) v w p q = ((λ m n. cc), refl)
 each_line T E F L M N G d H e J f g h i κs a (Err x) y v w p q = ((λ m n. cc), refl)
 
+pub each_nonempty_line : (T : RattleType) (E F : RattleType) (L : Laws T) (M : Laws E) (N : Laws F) (G : Read.Ghosts T.Denot) (d : Dict)
+    (H : From.Ghosts E.Denot Error) (e : Dict) (J : contracts.each_nonempty_line.F-FnMut.Ghosts T E F) (f g h i : Dict)
+    → Settled (contracts.each_nonempty_line.ended T E F G d H e J f g h i) (λ κs x. IsOk x) (input.each_nonempty_line.Reads.Learnt T E F L M N G d H e J f g h i)
+each_nonempty_line T E F L M N G d H e J f g h i κs a (Ok x) (Ok y) v w p q = ((λ _ _. refl), refl)
+each_nonempty_line T E F L M N G d H e J f g h i κs a (Ok x) (Err y) v w p q = ((λ m n. cc), refl)
+each_nonempty_line T E F L M N G d H e J f g h i κs a (Err x) y v w p q = ((λ m n. cc), refl)
+
 pub word : DeterminedAs contracts.fields.Fields.word.ended (λ κs x. x.now) input.fields.Fields.word.Reads.Learnt
 word κs a x y v w p q =
     (cc, ap (λ l. (record { line = l; at = v.0.at }, v.1)) (p.1.0 ∙ sym q.1.0) ∙ ap (λ n. (record { line = w.0.line; at = n }, v.1)) (p.1.1 ∙ sym q.1.1))

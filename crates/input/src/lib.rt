@@ -24,14 +24,15 @@ pub struct Line<'a> {
     ghost full: { IsTrue is_longer → length bytes.now ≡ LINE_LENGTH },
 }
 
-// The line that is being read: how many bytes it has, 1,025 standing for any more than 1,024, and its number.
+// The line that is being read: how many bytes it has, 1,025 standing for any more than 1,024, and its number. LEAST is how many bytes a line
+// has at least that is handed on: with 0 an empty one is, with 1 it is counted and passed over.
 #[derive(Clone, Copy)]
-struct Progress {
+struct Progress<const LEAST: usize> {
     length: usize,
     number: u64,
 }
 
-impl Progress {
+impl<const LEAST: usize> Progress<LEAST> {
     fn line(self, buffer: &[u8; LINE_LENGTH], is_ended: bool) -> Line<'_> {
         Line {
             bytes: first(buffer, self.length),
@@ -44,12 +45,12 @@ impl Progress {
 
 // Never inlined: a function of its own has the buffer and the bytes in registers, in a loop that is gone through for each byte.
 #[inline(never)]
-fn take_bytes<E, F: FnMut(Line) -> Result<(), E>>(
+fn take_bytes<E, F: FnMut(Line) -> Result<(), E>, const LEAST: usize>(
     bytes: &[u8],
     buffer: &mut [u8; LINE_LENGTH],
-    begun: Progress,
+    begun: Progress<LEAST>,
     visit: &mut F,
-) -> Result<Progress, E>
+) -> Result<Progress<LEAST>, E>
     requires { F.IsAlwaysCallable visit.old }
     ensures { F.IsAlwaysCallable visit.new }
 {
@@ -58,7 +59,7 @@ fn take_bytes<E, F: FnMut(Line) -> Result<(), E>>(
         match gather(buffer, p.length, byte) {
             Some(length) => p.length = length,
             None => {
-                if 0 < p.length {
+                if LEAST <= p.length {
                     visit(p.line(buffer, true))?;
                 }
                 p = Progress {
@@ -71,7 +72,7 @@ fn take_bytes<E, F: FnMut(Line) -> Result<(), E>>(
     Ok(p)
 }
 
-fn take_all<R: Read, E: From<io::Error>, F: FnMut(Line) -> Result<(), E>>(
+fn take_all<R: Read, E: From<io::Error>, F: FnMut(Line) -> Result<(), E>, const LEAST: usize>(
     input: &mut R,
     chunk: &mut [u8; CHUNK_LENGTH],
     buffer: &mut [u8; LINE_LENGTH],
@@ -79,7 +80,7 @@ fn take_all<R: Read, E: From<io::Error>, F: FnMut(Line) -> Result<(), E>>(
 ) -> Result<(), E>
     requires { F.IsAlwaysCallable visit.old }
 {
-    let mut p = Progress {
+    let mut p = Progress::<LEAST> {
         length: 0,
         number: 1,
     };
@@ -97,8 +98,7 @@ fn take_all<R: Read, E: From<io::Error>, F: FnMut(Line) -> Result<(), E>>(
     Ok(())
 }
 
-// Calls the function on each line that has a byte, up to the first error: an empty one says nothing, and is counted and passed over. What is
-// read is handed on before more is waited for.
+// Calls the function on each line up to the first error. What is read is handed on before more is waited for.
 pub fn each_line<R: Read + Drop, E: From<io::Error>, F: FnMut(Line) -> Result<(), E> + Drop>(
     mut input: R,
     mut visit: F,
@@ -107,5 +107,18 @@ pub fn each_line<R: Read + Drop, E: From<io::Error>, F: FnMut(Line) -> Result<()
 {
     let mut chunk = [0u8; CHUNK_LENGTH];
     let mut buffer = [0u8; LINE_LENGTH];
-    take_all(&mut input, &mut chunk, &mut buffer, &mut visit)
+    take_all::<R, E, F, 0>(&mut input, &mut chunk, &mut buffer, &mut visit)
+}
+
+// As `each_line`, on each line that has a byte: an empty one, which says nothing, is counted and passed over.
+pub fn each_nonempty_line<
+    R: Read + Drop,
+    E: From<io::Error>,
+    F: FnMut(Line) -> Result<(), E> + Drop,
+>(mut input: R, mut visit: F) -> Result<(), E>
+    requires { F.IsAlwaysCallable visit }
+{
+    let mut chunk = [0u8; CHUNK_LENGTH];
+    let mut buffer = [0u8; LINE_LENGTH];
+    take_all::<R, E, F, 1>(&mut input, &mut chunk, &mut buffer, &mut visit)
 }

@@ -11,7 +11,7 @@ mod tally;
 
 use crate::steps::Replay;
 use input::stop::Stop;
-use input::{Line, each_line};
+use input::{Line, each_nonempty_line};
 use std::io;
 
 fn say_difference(rt: &impl Print, line: Line) -> io::Result<()> {
@@ -31,7 +31,7 @@ fn take_line(rt: &impl Print, replay: &mut Replay, line: Line) -> Result<(), Sto
 
 fn main(rt: HostRuntime) -> io::Result<()> {
     let mut replay = Replay::new();
-    match each_line(rt.stdin(), |line| take_line(&rt, &mut replay, line)) {
+    match each_nonempty_line(rt.stdin(), |line| take_line(&rt, &mut replay, line)) {
         Err(Stop::Failed(e)) => Err(e),
         Err(Stop::Differs) => Ok(()),
         Ok(()) => {

@@ -23,7 +23,7 @@ fn put_words(part: &mut [u8], ws: &[u32])
 }
 
 // The word v, n times; by an index, as `put_words`.
-pub(crate) fn put_run(part: &mut [u8], n: usize, v: u32)
+pub fn put_run(part: &mut [u8], n: usize, v: u32)
     requires { length part.old ≡ 4 * n }
     ensures { part.new ≡ words_bytes (replicate n v) }
 {
