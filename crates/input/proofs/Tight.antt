@@ -1,9 +1,10 @@
--- "prove that two results satisfying it are equal": the function answers nothing but an error, and nothing is lent to it to be written.
+-- "prove that two results satisfying it are equal": what reads answers nothing but an error, and nothing is lent to it to be written.
 -- What is read no contract can say.
-use Rattle.std.proofs.Common.{refl, ◌∙◌, ap, sym, IsOk, Ok, Err}
+use Rattle.std.proofs.Common.{refl, ◌∙◌, ap, sym, IsOk}
 use Rattle.std.specs.declared.convert.From as From
 use Rattle.std.specs.declared.io.Error.{Error}
 use Rattle.std.specs.declared.io.traits.Read as Read
+use Rattle.rows.proofs.Fine.{fine_same}
 use Rattle.rows.specs.Settled.{Settled}
 use Rattle.words.specs.Determined.{DeterminedAs}
 use Rattle.input.proofs as input
@@ -15,16 +16,12 @@ use mir.Syntax.{Dict}
 pub each_line : (T : RattleType) (E F : RattleType) (L : Laws T) (M : Laws E) (N : Laws F) (G : Read.Ghosts T.Denot) (d : Dict)
     (H : From.Ghosts E.Denot Error) (e : Dict) (J : contracts.each_line.F-FnMut.Ghosts T E F) (f g h i : Dict)
     → Settled (contracts.each_line.ended T E F G d H e J f g h i) (λ κs x. IsOk x) (input.each_line.Reads.Learnt T E F L M N G d H e J f g h i)
-each_line T E F L M N G d H e J f g h i κs a (Ok x) (Ok y) v w p q = ((λ _ _. refl), refl)
-each_line T E F L M N G d H e J f g h i κs a (Ok x) (Err y) v w p q = ((λ m n. cc), refl)
-each_line T E F L M N G d H e J f g h i κs a (Err x) y v w p q = ((λ m n. cc), refl)
+each_line T E F L M N G d H e J f g h i κs a x y v w p q = (fine_same x y, refl)
 
 pub each_nonempty_line : (T : RattleType) (E F : RattleType) (L : Laws T) (M : Laws E) (N : Laws F) (G : Read.Ghosts T.Denot) (d : Dict)
     (H : From.Ghosts E.Denot Error) (e : Dict) (J : contracts.each_nonempty_line.F-FnMut.Ghosts T E F) (f g h i : Dict)
     → Settled (contracts.each_nonempty_line.ended T E F G d H e J f g h i) (λ κs x. IsOk x) (input.each_nonempty_line.Reads.Learnt T E F L M N G d H e J f g h i)
-each_nonempty_line T E F L M N G d H e J f g h i κs a (Ok x) (Ok y) v w p q = ((λ _ _. refl), refl)
-each_nonempty_line T E F L M N G d H e J f g h i κs a (Ok x) (Err y) v w p q = ((λ m n. cc), refl)
-each_nonempty_line T E F L M N G d H e J f g h i κs a (Err x) y v w p q = ((λ m n. cc), refl)
+each_nonempty_line T E F L M N G d H e J f g h i κs a x y v w p q = (fine_same x y, refl)
 
 pub word : DeterminedAs contracts.fields.Fields.word.ended (λ κs x. x.now) input.fields.Fields.word.Reads.Learnt
 word κs a x y v w p q =
